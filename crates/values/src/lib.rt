@@ -1,0 +1,2 @@
+// Values: what a cell holds, and the table of them.
+pub mod table;
