@@ -1,0 +1,5 @@
+// The output: lines written into a lent paper, each whole or not at all.
+pub mod count;
+mod digits;
+mod guard;
+pub mod lines;
