@@ -15,7 +15,8 @@ pub struct ValueTable<'a, V> {
 impl<'a, V: Copy> ValueTable<'a, V> {
     // The table over these rows.
     pub fn new(rows: &'a mut [V]) -> ValueTable<'a, V>
-        ensures { λ r. ⌜ name (r .rows) ≡ name rows ⌝ ∗ ⌜ now (r .rows) ≡ now rows ⌝ }
+        ensures same { λ r. ⌜ name (r .rows) ≡ name (rows .entry) ⌝ }
+        ensures holds { λ r. ⌜ now (r .rows) ≡ now (rows .entry) ⌝ }
     {
         ValueTable { rows }
     }
@@ -24,7 +25,7 @@ impl<'a, V: Copy> ValueTable<'a, V> {
     pub fn get(&self, i: usize) -> Option<V>
         ensures { λ r. ⌜ ((d : V) → r ≡ cond (ltb i (length (now (now (self .entry) .rows)))) (Some (getD (now (now (self .entry) .rows)) i d)) None) ⌝ }
     {
-        if i < self.rows.len() { Some(self.rows[i]) } else { None }
+        self.rows.get(i).copied()
     }
 
     // Stores a value in row `i`, counted from 0; past the last nothing is stored.
