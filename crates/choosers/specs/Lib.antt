@@ -1,0 +1,4 @@
+pub mod Meaning
+pub mod Stride
+pub mod Script
+pub mod Lawful

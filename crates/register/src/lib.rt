@@ -1,0 +1,3 @@
+// The register's calls.
+pub mod making;
+pub mod refusing;
