@@ -3,13 +3,11 @@ ghost use mathlib.Core.Path.{_≡_};
 ghost use Prim.Native.Nat.{_+_, _≤_};
 ghost use lib.Dec.{leb};
 ghost use lib.ListN.{length, take};
-ghost use Rattle.std.specs.Results.{isOk, isErr};
-ghost use Rattle.std.specs.declared.result.Result.the-variants.{Ok, Err};
-ghost use Rattle.terms.specs.declared.refusals.Refusal.the-variants.{PaperFull};
+ghost use Rattle.std.specs.Results.{isOk};
 ghost use Rattle.output.specs.Guarded.{SameLine};
 ghost use Rattle.output.specs.Laid.{laid};
 ghost use Rattle.output.specs.Lines.{leadBytes, tailBytes, lineOf, stopLine};
-ghost use Rattle.output.specs.Papers.{added, paperOf};
+ghost use Rattle.output.specs.Papers.{Written};
 ghost use Rattle.output.specs.Pieces.{Writes};
 use crate::count::Count;
 use crate::guard::Full;
@@ -67,10 +65,7 @@ fn put_line(count: &mut Count, out: &mut [u8], lead: Lead, numbers: &[u64], tail
 
 // Writes a line after the used bytes, if 64 bytes of the paper remain after it. A line that is broken off is taken back.
 pub fn write_line(count: &mut Count, out: &mut [u8], lead: Lead, numbers: &[u64], tail: Option<u8>) -> Result<(), Refusal>
-    ensures answer { λ r. ⌜ r ≡ cond (leb (now (count .entry) .used + length (lineOf lead (now (numbers .entry)) tail) + 64) (length (now (out .entry)))) (Ok tt) (Err PaperFull) ⌝ }
-    ensures paper { λ r. ⌜ paperOf (isErr r) (now (count .exit)) (now (out .exit)) ≡ added (length (now (out .entry))) (lineOf lead (now (numbers .entry)) tail) (paperOf false (now (count .entry)) (now (out .entry))) ⌝ }
-    ensures used { λ r. ⌜ now (count .exit) .used ≡ cond (isOk r) (now (count .entry) .used + length (lineOf lead (now (numbers .entry)) tail)) (now (count .entry) .used) ⌝ }
-    ensures rest { λ r. ⌜ (isOk r ≡ true → now (out .exit) ≡ laid (now (out .entry)) (now (count .entry) .used) (lineOf lead (now (numbers .entry)) tail)) ⌝ }
+    ensures { λ r. ⌜ Written (lineOf lead (now (numbers .entry)) tail) (now (count .entry)) (now (out .entry)) r (now (count .exit)) (now (out .exit)) ⌝ }
 {
     match put_line(count, out, lead, numbers, tail) {
         Ok(()) => Ok(()),
