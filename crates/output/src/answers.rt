@@ -27,3 +27,23 @@ pub fn write_refusal(count: &mut Count, out: &mut [u8], refusal: Refusal) -> Res
         _ => write_line(count, out, lead, &[], None),
     }
 }
+
+// Stores the numbers of a value's fields at the front of a list, and answers how many there are.
+fn list_fields<K: Kind>(value: &K, numbers: &mut [u64; 64]) -> usize
+    ensures count { λ r. ⌜ r ≡ form .width ⌝ }
+    ensures front { λ r. ⌜ take r (now (numbers .exit)) ≡ form .fields (now (value .entry)) ⌝ }
+{
+    for i in 0..K::count() {
+        numbers[i] = value.field(i);
+    }
+    K::count()
+}
+
+// Writes the line of a cell's value: `V`, then its fields.
+pub fn write_value<K: Kind>(count: &mut Count, out: &mut [u8], value: &K) -> Result<(), Refusal>
+    ensures { λ r. ⌜ Written (valueLine form (now (value .entry))) (now (count .entry)) (now (out .entry)) r (now (count .exit)) (now (out .exit)) ⌝ }
+{
+    let mut numbers = [0; 64];
+    let fields = list_fields(value, &mut numbers);
+    write_line(count, out, Lead::Letter(b'V'), &numbers[0..fields], None)
+}

@@ -58,10 +58,14 @@ badFirst false count = Some (record { field = 1; cause = WrongLetter })
 badFirst true false = Some (record { field = 1; cause = WrongCount })
 badFirst true true = None
 
+-- why a line may not stand at a stage, where a value has so many fields: the first letter is tested before the count
+abbrev pub badShape : Stage → ℕ → Shape → Option BadField
+badShape stage width line = badFirst (letterFits stage (line .letter)) (countFits stage width (line .second) (line .fields))
+
 abbrev pub takenOr : Option BadField → Reader → Result (Unit {0}) BadField × Reader
 takenOr None r = (Ok tt, movedOn (r .stage) (r .left) (r .width))
 takenOr (Some bad) r = (Err bad, r)
 
--- the next line, by its shape: the first letter is tested before the count of fields, and a bad line moves nothing
+-- the next line, by its shape; a bad line moves nothing
 abbrev pub taken : Reader → Shape → Result (Unit {0}) BadField × Reader
-taken r line = takenOr (badFirst (letterFits (r .stage) (line .letter)) (countFits (r .stage) (r .width) (line .second) (line .fields))) r
+taken r line = takenOr (badShape (r .stage) (r .width) line) r

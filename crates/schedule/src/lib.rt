@@ -1,0 +1,2 @@
+// Schedules: text in, a register made and filled, and the account of it out.
+mod reading;
