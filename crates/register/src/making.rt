@@ -1,14 +1,17 @@
 ghost use mathlib.Core.Path.{_≡_};
-ghost use Prim.Native.Nat.{_<_};
 ghost use lib.ListN.{length, set, replicate};
-ghost use Rattle.rules.specs.Heads.{fillingOf};
+ghost use Rattle.std.specs.declared.result.Result.the-variants.{Ok, Err};
+ghost use Rattle.rules.specs.Heads.{fillingOf, startedOf};
 ghost use Rattle.rules.specs.Contents.{contentsOf, Same};
-ghost use Rattle.rules.specs.Making.{FillOutcome, fillOutcome, StartOutcome, startOutcome, answerOf};
+ghost use Rattle.rules.specs.Making.{FillOutcome, fillOutcome, StartOutcome, startOutcome, answerOf, JustStarted};
 use crate::refusing::wrong_table;
-use rules::head::{Filling, Started};
+use rules::head::Filling;
+use rules::head::Started;
 use rules::tables::Tables;
-use terms::numbers::{JobNumber, Place};
-use terms::records::{JobRecord, Standing};
+use terms::numbers::JobNumber;
+use terms::numbers::Place;
+use terms::records::JobRecord;
+use terms::records::Standing;
 use terms::refusals::Refusal;
 use values::table::ValueTable;
 
@@ -50,6 +53,7 @@ fn overwrite<T: Copy>(items: &mut [T], item: T)
 pub fn start<V>(head: Filling, t: &mut Tables<'_, V>) -> Result<Started, (Filling, Refusal)>
     ensures same { λ _. ⌜ Same V (now (t .exit)) (now (t .entry)) ⌝ }
     ensures outcome { λ r. ⌜ _≡_ {A = StartOutcome V} (record { answer = answerOf r; contents = contentsOf V (now (t .exit)) }) (startOutcome {V = V} (fillingOf head) (contentsOf V (now (t .entry)))) ⌝ }
+    ensures started { λ r. ⌜ elim r [ Ok s ↦ JustStarted {V = V} (startedOf s) (contentsOf V (now (t .exit))) | Err _ ↦ Unit {0} ] ⌝ }
 {
     if let Some(refusal) = wrong_table(head.sizes, t) {
         return Err((head, refusal));
@@ -59,7 +63,20 @@ pub fn start<V>(head: Filling, t: &mut Tables<'_, V>) -> Result<Started, (Fillin
     }
     overwrite(t.written, 0);
     overwrite(t.read, 0);
-    overwrite(t.jobs, JobRecord { standing: Standing::Closed, job: JobNumber(0), low: Place(0), high: Place(0) });
+    overwrite(
+        t.jobs,
+        JobRecord {
+            standing: Standing::Closed,
+            job: JobNumber(0),
+            low: Place(0),
+            high: Place(0),
+        },
+    );
     overwrite(t.flags, 0);
-    Ok(Started { sizes: head.sizes, highest: Place(0), ended: 0, active: 0 })
+    Ok(Started {
+        sizes: head.sizes,
+        highest: Place(0),
+        ended: 0,
+        active: 0,
+    })
 }

@@ -5,7 +5,8 @@ ghost use Rattle.rules.specs.Contents.{contentsOf, Fits};
 ghost use Rattle.rules.specs.Refusing.{firstRefusal, sizeTests};
 use rules::sizes::Sizes;
 use rules::tables::Tables;
-use terms::refusals::{Refusal, TableName};
+use terms::refusals::Refusal;
+use terms::refusals::TableName;
 
 // The refusal that names the first table whose length is not the head's, if there is one.
 pub fn wrong_table<V>(sizes: Sizes, t: &Tables<'_, V>) -> Option<Refusal>
