@@ -1,2 +1,3 @@
 pub mod Accounts
 pub mod Ranges
+pub mod Filling
