@@ -1,8 +1,8 @@
 -- A paper: the memory that the output is written into.
 use mathlib.Core.Path.{_≡_}
-use mathlib.Core.Bool.{Bool, true, false, cond}
+use mathlib.Core.Bool.{Bool, true, false, cond, not}
 use mathlib.Core.List.{List, [], _∷_, _++_}
-use Prim.Native.Nat.{ℕ, _+_}
+use Prim.Native.Nat.{ℕ, _+_, _≤_}
 use lib.Dec.{leb}
 use lib.ListN.{length, take}
 use Rattle.std.specs.Results.{isOk, isErr}
@@ -65,3 +65,10 @@ pub record Written (line : List ℕ) (c : Count) (out : List ℕ) (r : Result (U
   pub used : c′ .used ≡ cond (isOk r) (c .used + length line) (c .used)
   -- a line that was written altered no other byte
   pub others : isOk r ≡ true → out′ ≡ laid out (c .used) line
+
+-- Lines come to the paper one after another, until one of them finds no room, and are answered r.
+pub record WrittenAll (lines : List (List ℕ)) (c : Count) (out : List ℕ) (r : Result (Unit {0}) Refusal) (c′ : Count) (out′ : List ℕ) : Type 0 where
+  pub answer : r ≡ answered (not (addedAll (length out) lines (paperOf false c out) .full))
+  pub text : paperOf (isErr r) c′ out′ ≡ addedAll (length out) lines (paperOf false c out)
+  -- the 64 bytes after the used ones stay free
+  pub reserve : c .used + 64 ≤ length out → c′ .used + 64 ≤ length out

@@ -1,10 +1,11 @@
 ghost use mathlib.Core.Bool.{true, false, cond};
+ghost use mathlib.Core.List.{map};
 ghost use mathlib.Core.Path.{_≡_};
 ghost use Prim.Native.Nat.{_+_, _≤_};
 ghost use lib.Dec.{leb};
 ghost use lib.ListN.{length, take};
 ghost use Rattle.output.specs.Lines.{refusalLine, valueLine};
-ghost use Rattle.output.specs.Papers.{Written};
+ghost use Rattle.output.specs.Papers.{Written, WrittenAll};
 use crate::count::Count;
 use crate::lines::Lead;
 use crate::lines::write_line;
@@ -46,4 +47,14 @@ pub fn write_value<K: Kind>(count: &mut Count, out: &mut [u8], value: &K) -> Res
     let mut numbers = [0; 64];
     let fields = list_fields(value, &mut numbers);
     write_line(count, out, Lead::Letter(b'V'), &numbers[0..fields], None)
+}
+
+// Writes a line for each of a table's values, until one finds no room.
+pub fn write_values<K: Kind>(count: &mut Count, out: &mut [u8], values: &[K]) -> Result<(), Refusal>
+    ensures { λ r. ⌜ WrittenAll (map (valueLine form) (now (values .entry))) (now (count .entry)) (now (out .entry)) r (now (count .exit)) (now (out .exit)) ⌝ }
+{
+    for value in values {
+        write_value(count, out, value)?;
+    }
+    Ok(())
 }
