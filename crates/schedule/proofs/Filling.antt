@@ -7,7 +7,7 @@ use Prim.Native.Nat.{ℕ, suc, _+_, _-_, _<_, _≤_}
 use native.Mathlib.Omega.{arith}
 use lib.Dec.{leb}
 use lib.ListN.{length, set, take}
-use Rattle.std.proofs.shelf.Lists.{take-more-set, length-set}
+use Rattle.std.proofs.shelf.Lists.{take-more-set, take-all, length-set}
 use Rattle.std.proofs.shelf.Tests.{le-leb, lt-leb, cases-lt}
 use Rattle.terms.specs.declared.refusals.BadLine.{BadLine}
 use Rattle.values.specs.Forms.{Form}
@@ -18,7 +18,7 @@ use Rattle.stages.specs.declared.stage.Reader.{Reader}
 use Rattle.stages.specs.declared.stage.Stage.{Stage}
 use Rattle.stages.specs.declared.stage.Stage.the-variants.{Cells, Calls}
 use Rattle.stages.specs.Stages.{movedOn}
-use Rattle.schedule.specs.Accounts.{Lines, wanted, readCell, atCells, badLine}
+use Rattle.schedule.specs.Accounts.{Lines, wanted, readCell, atCells, atCalls, badLine}
 use Rattle.schedule.specs.Filling.{FilledTo}
 
 -- what the next cell's line leads to
@@ -102,3 +102,13 @@ cell-filled {V} form lines i head head′ t t′ reader reader′ rest rest′ v
     let Q : Contents V → Type 0 = λ q. FilledTo form lines (i + 1) (oneMoreFilled head) q reader′ rest′ in
     let R : Reader → Type 0 = λ q. FilledTo form lines (i + 1) (oneMoreFilled head) (withValue (head .filled) v t) q rest′ in
     subst P (sym d) (subst Q (sym e) (subst R (sym r) (one-filled form lines i head t reader rest rest′ v f h w)))
+
+-- past the last cell come the calls
+pub all-filled : {V : Type 0} (form : Form V) (lines : Lines) (n : ℕ) (head : FillingHead) (t : Contents V) (reader : Reader) (rest : Lines)
+  → FilledTo form lines n head t reader rest → head .sizes .cells ≡ n → atCells form n 3 [] lines ≡ atCalls form (3 + n) (t .values) rest
+all-filled {V} form lines n head t reader rest f e =
+    let none : head .sizes .cells - n ≡ 0 = omega arith in
+    sym (ap (λ (k : ℕ). atCells form k 3 [] lines) e)
+    ∙ sym (f .gives)
+    ∙ ap (λ (k : ℕ). atCells form k (3 + n) (take n (t .values)) rest) none
+    ∙ ap (λ (vs : List V). atCalls form (3 + n) vs rest) (take-all n (t .values) (omega (arith, f .tables-fit .values)))

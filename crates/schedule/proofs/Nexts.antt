@@ -15,11 +15,13 @@ use Rattle.terms.specs.declared.refusals.BadField.{BadField}
 use Rattle.terms.specs.declared.refusals.BadLine.{BadLine}
 use Rattle.text.specs.Split.{before, after, linesOf}
 use Rattle.text.proofs.Splitting.{lines-are}
+use Rattle.values.specs.Forms.{Form}
 use Rattle.stages.specs.declared.stage.Stage.{Stage}
+use Rattle.stages.specs.declared.stage.Stage.the-variants.{Calls}
 use Rattle.stages.specs.declared.stage.Reader.{Reader}
 use Rattle.stages.specs.declared.stage.Shape.{Shape}
 use Rattle.stages.specs.Stages.{badShape, shapeOf, movedOn, taken, takenOr}
-use Rattle.schedule.specs.Accounts.{Lines, badNext, atLine, wrongLetter, badLine, fits, goesOn, wanted}
+use Rattle.schedule.specs.Accounts.{Lines, badNext, atLine, wrongLetter, badLine, fits, goesOn, wanted, atCalls}
 
 -- a text without bytes has no line
 pub no-lines : (xs : List ℕ) → eqb (length xs) 0 ≡ true → linesOf xs ≡ []
@@ -73,3 +75,12 @@ pub wanted-field : {A : Type 0} (k : ℕ) (stage : Stage) (width : ℕ) (read : 
   → xs ≡ l ∷ ls → badShape stage width (shapeOf l) ≡ None → read l ≡ Err bad → wanted k stage width read next xs ≡ badLine (record { line = k; at = bad })
 wanted-field {A} k stage width read next xs l ls bad e h r =
     wanted-line k stage width read next xs l ls e h ∙ ap (λ (q : Result A BadField). goesOn k q (λ b. next b ls)) r
+
+-- among the calls every line is bad for its first letter
+pub calls-bad : {V : Type 0} (form : Form V) (k : ℕ) (stage : Stage) (width : ℕ) (l : List ℕ) (ls xs : Lines) (bad : BadLine) → stage ≡ Calls → xs ≡ l ∷ ls
+  → badNext k stage width xs ≡ Some bad → (values : List V) → atCalls form k values xs ≡ badLine bad
+calls-bad form k stage width l ls xs bad s e h values =
+    let first : _≡_ {A = Option BadLine} (Some (record { line = k; at = wrongLetter })) (Some bad)
+          = sym (ap (λ (q : Stage). badNext k q width xs) s ∙ ap (badNext k Calls width) e) ∙ h in
+    let same : record { line = k; at = wrongLetter } ≡ bad = cc in
+    ap (atCalls form k values) e ∙ ap badLine same

@@ -1,3 +1,4 @@
 // Schedules: text in, a register made and filled, and the account of it out.
 mod cells;
+mod making;
 mod reading;
