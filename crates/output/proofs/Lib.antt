@@ -1,0 +1,4 @@
+pub mod Writing
+pub mod Pieces
+pub mod Commas
+pub mod Papers
