@@ -17,6 +17,7 @@ movedOn f low high = λ further. f ((low, high) ∷ further)
 abbrev pub noRoom : ℕ → ℕ → Bool
 noRoom low high = ltb high (low + 2)
 
+-- the law
 pub record KeepsLaw (f : Meaning) : Type 0 where
   -- with room, the place is above low and below high
   pub between : (further : List (ℕ × ℕ)) (low high : ℕ) → low + 2 ≤ high → (low < f further low high) × (f further low high < high)

@@ -4,9 +4,12 @@ use Prim.Native.Nat.{ℕ, _+_, _-_, _/_}
 use lib.Dec.{leb, ltb}
 use Rattle.choosers.specs.Meaning.{Meaning, noRoom}
 
--- a step is 1 to 1,000,000
+abbrev pub mostStep : ℕ
+mostStep = 1000000
+
+-- the steps that a stride can have
 abbrev pub inRange : ℕ → Bool
-inRange step = leb 1 step && leb step 1000000
+inRange step = leb 1 step && leb step mostStep
 
 -- low + step if that is under high, else the middle, rounded down
 abbrev pub strideMeaning : ℕ → Meaning

@@ -3,7 +3,7 @@ ghost use Prim.Native.Nat.{ℕ, _<_, _≤_};
 ghost use Rattle.std.specs.declared.result.Result.the-variants.{Ok, Err};
 ghost use Rattle.terms.specs.declared.refusals.Refusal.the-variants.{BadSize};
 ghost use mathlib.Core.Bool.{true, false};
-ghost use Rattle.choosers.specs.Stride.{strideMeaning, inRange};
+ghost use Rattle.choosers.specs.Stride.{strideMeaning, mostStep, inRange};
 ghost use Rattle.choosers.specs.Lawful.{stride-lawful};
 use crate::chooser::Chooser;
 use crate::chooser::no_room;
@@ -14,8 +14,8 @@ use terms::refusals::Refusal;
 #[derive(Drop)]
 pub struct Stride {
     step: u64,
-    ghost from: { 1 ≤ step },
-    ghost to: { step ≤ 1000000 },
+    ghost positive: { 1 ≤ step },
+    ghost in_range: { step ≤ mostStep },
 }
 
 impl Stride {
@@ -33,7 +33,7 @@ impl Stride {
 pub impl Chooser for Stride as StrideChooser {
     ghost meaning = { λ s. strideMeaning (s .step) };
 
-    ghost lawful = { λ s. stride-lawful (s .step) (s .from) };
+    ghost lawful = { λ s. stride-lawful (s .step) (s .positive) };
 
     fn choose(&mut self, low: Place, high: Place) -> Place {
         if no_room(low, high) {

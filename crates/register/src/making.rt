@@ -27,6 +27,7 @@ fn store<V: Copy>(rows: &mut [V], i: usize, value: V)
 pub fn fill<V: Copy>(head: &mut Filling, t: &mut Tables<'_, V>, value: V) -> Result<(), Refusal>
     ensures same { λ _. ⌜ Same V (now (t .exit)) (now (t .entry)) ⌝ }
     ensures outcome { λ r. ⌜ _≡_ {A = FillOutcome V} (record { answer = r; head = fillingOf (now (head .exit)); contents = contentsOf V (now (t .exit)) }) (fillOutcome {V = V} (fillingOf (now (head .entry))) (contentsOf V (now (t .entry))) value) ⌝ }
+    ensures refused { λ r. ⌜ elim r [ Ok _ ↦ Unit {0} | Err _ ↦ (fillingOf (now (head .exit)) ≡ fillingOf (now (head .entry))) × (contentsOf V (now (t .exit)) ≡ contentsOf V (now (t .entry))) ] ⌝ }
 {
     if let Some(refusal) = wrong_table(head.sizes, t) {
         return Err(refusal);
@@ -54,6 +55,7 @@ pub fn start<V>(head: Filling, t: &mut Tables<'_, V>) -> Result<Started, (Fillin
     ensures same { λ _. ⌜ Same V (now (t .exit)) (now (t .entry)) ⌝ }
     ensures outcome { λ r. ⌜ _≡_ {A = StartOutcome V} (record { answer = answerOf r; contents = contentsOf V (now (t .exit)) }) (startOutcome {V = V} (fillingOf head) (contentsOf V (now (t .entry)))) ⌝ }
     ensures started { λ r. ⌜ elim r [ Ok s ↦ JustStarted {V = V} (startedOf s) (contentsOf V (now (t .exit))) | Err _ ↦ Unit {0} ] ⌝ }
+    ensures refused { λ r. ⌜ elim r [ Ok _ ↦ Unit {0} | Err e ↦ (e .0 ≡ head) × (contentsOf V (now (t .exit)) ≡ contentsOf V (now (t .entry))) ] ⌝ }
 {
     if let Some(refusal) = wrong_table(head.sizes, t) {
         return Err((head, refusal));

@@ -5,6 +5,7 @@ use mathlib.Core.List.{List}
 use Prim.Native.Nat.{ℕ, _*_}
 use lib.ListN.{length}
 use Rattle.terms.specs.declared.records.JobRecord.{JobRecord}
+use Rattle.terms.specs.declared.records.Standing.the-variants.{Closed}
 use Rattle.terms.specs.declared.records.Entry.{Entry}
 use Rattle.rules.specs.declared.tables.Tables.{Tables}
 use Rattle.rules.specs.Heads.{Dimensions}
@@ -40,3 +41,7 @@ pub record Fits {V : Type 0} (sizes : Dimensions) (t : Contents V) : Type 0 wher
   pub own : length (t .own) ≡ sizes .crews * sizes .cells
   pub flags : length (t .flags) ≡ sizes .crews * sizes .cells
   pub book : length (t .book) ≡ sizes .entries
+
+-- the record of a crew that has no job open
+abbrev pub closedRecord : JobRecord
+closedRecord = record { standing = Closed; job = record { 0 = 0 }; low = record { 0 = 0 }; high = record { 0 = 0 } }

@@ -7,14 +7,12 @@ use lib.Dec.{eqb}
 use lib.ListN.{set, replicate}
 use Rattle.std.specs.declared.result.Result.{Result}
 use Rattle.std.specs.declared.result.Result.the-variants.{Ok, Err}
-use Rattle.terms.specs.declared.records.JobRecord.{JobRecord}
-use Rattle.terms.specs.declared.records.Standing.the-variants.{Closed}
 use Rattle.terms.specs.declared.refusals.Refusal.{Refusal}
 use Rattle.terms.specs.declared.refusals.Refusal.the-variants.{NoCell, NotFilled}
 use Rattle.rules.specs.declared.head.Filling.{Filling}
 use Rattle.rules.specs.declared.head.Started.{Started}
 use Rattle.rules.specs.Heads.{Dimensions, FillingHead, StartedHead, fillingOf, startedOf}
-use Rattle.rules.specs.Contents.{Contents, Fits}
+use Rattle.rules.specs.Contents.{Contents, Fits, closedRecord}
 use Rattle.rules.specs.Refusing.{Tests, firstRefusal, ifRefused, sizeTests}
 
 ---- Fill: the next cell takes its first value
@@ -44,7 +42,7 @@ fillOutcome head t value = ifRefused (firstRefusal (fillTests head t))
 abbrev pub startTests : {V : Type 0} → FillingHead → Contents V → Tests
 startTests head t = sizeTests (head .sizes) t ++ ((not (eqb (head .filled) (head .sizes .cells)), NotFilled) ∷ [])
 
--- a start's answer: the started head, or the head that was handed in with the refusal
+-- the answer: the started head, or the head that was handed in, with the refusal
 abbrev pub StartAnswer : Type 0
 StartAnswer = Result StartedHead (FillingHead × Refusal)
 
@@ -56,13 +54,11 @@ pub record StartOutcome (V : Type 0) : Type 0 where
   pub answer : StartAnswer
   pub contents : Contents V
 
--- the record of a crew that has no job open
-abbrev pub closedRecord : JobRecord
-closedRecord = record { standing = Closed; job = record { 0 = 0 }; low = record { 0 = 0 }; high = record { 0 = 0 } }
-
+-- nothing is committed or opened yet
 abbrev pub freshHead : Dimensions → StartedHead
 freshHead sizes = record { sizes = sizes; highest = 0; ended = 0; active = 0 }
 
+-- the values, the own values and the book stay as they are
 abbrev pub freshContents : {V : Type 0} → Dimensions → Contents V → Contents V
 freshContents sizes t = record {
   values = t .values;
