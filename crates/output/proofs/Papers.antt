@@ -8,7 +8,7 @@ use native.Mathlib.Omega.{arith}
 use lib.Dec.{leb}
 use lib.ListN.{length, getD, take, drop}
 use Rattle.std.proofs.shelf.Lists.{append-assoc, length-append, length-take-le, take-at, take-all, take-append-drop, map-append, map-more}
-use Rattle.std.proofs.shelf.Tests.{leb-true, leb-false, lt-leb, cases-lt}
+use Rattle.std.proofs.shelf.Tests.{leb-true, leb-false, le-leb, lt-leb, cases-lt, cond-true}
 use Rattle.std.specs.Results.{isOk, isErr}
 use Rattle.std.specs.declared.result.Result.{Result}
 use Rattle.std.specs.declared.result.Result.the-variants.{Ok, Err}
@@ -16,7 +16,8 @@ use Rattle.terms.specs.declared.refusals.Refusal.{Refusal}
 use Rattle.output.specs.Laid.{laid}
 use Rattle.output.specs.Pieces.{Writes}
 use Rattle.output.specs.declared.count.Count.{Count}
-use Rattle.output.specs.Papers.{Paper, added, addedTo, addedAll, paperOf, answered, Written, WrittenAll}
+use Rattle.output.specs.Papers.{Paper, added, addedTo, addedAll, empty, ended, printed, paperOf, answered, Written, WrittenAll}
+use Rattle.output.specs.Lines.{stopLine}
 
 pub take-past-laid : (xs : List ℕ) (at : ℕ) (ps : List ℕ) → at ≤ length xs → take (at + length ps) (laid xs at ps) ≡ take at xs ++ ps
 unfolding laid
@@ -128,3 +129,21 @@ first-written line vs i c out r c′ out′ e a =
 pub all-written : {V : Type 0} (line : V → List ℕ) (vs : List V) (i : ℕ) (c : Count) (out : List ℕ) (r : Result (Unit {0}) Refusal) (c′ : Count) (out′ : List ℕ)
   → length vs ≤ i → WrittenAll (map line (take i vs)) c out r c′ out′ → WrittenAll (map line vs) c out r c′ out′
 all-written line vs i c out r c′ out′ h a = written-as _ _ c out r c′ out′ (ap (map line) (take-all i vs h)) a
+
+---- The end of an output that found no room
+
+-- lines written onto an empty paper until one found no room, and then `12`: that is what is printed of them
+pub stopped : (lines : List (List ℕ)) (out : List ℕ) (r : Result (Unit {0}) Refusal) (c′ : Count) (out′ : List ℕ) (c″ : Count) (out″ : List ℕ)
+  → WrittenAll lines (record { used = 0 }) out r c′ out′ → isErr r ≡ true → length out′ ≡ length out → 64 ≤ length out
+  → out″ ≡ cond (leb (c′ .used + 3) (length out′)) (laid out′ (c′ .used) stopLine) out′ → c″ .used ≡ cond (leb (c′ .used + 3) (length out′)) (c′ .used + 3) (c′ .used)
+  → (c″ .used ≡ length (printed (length out) lines)) × (take (c″ .used) out″ ≡ printed (length out) lines)
+stopped lines out r c′ out′ c″ out″ a e l h o u =
+    let free = a .reserve (omega arith) in
+    let room : leb (c′ .used + 3) (length out′) ≡ true = le-leb (c′ .used + 3) (length out′) (omega arith) in
+    let used : c″ .used ≡ c′ .used + 3 = u ∙ cond-true _ _ _ room in
+    let full : record { text = take (c′ .used) out′; full = true } ≡ addedAll (length out) lines empty = ap (λ (b : Bool). paperOf b c′ out′) (sym e) ∙ a .text in
+    let all : take (c′ .used) out′ ++ stopLine ≡ printed (length out) lines = ap ended full in
+    let text : take (c″ .used) out″ ≡ take (c′ .used) out′ ++ stopLine
+          = ap (λ (n : ℕ). take n out″) used ∙ ap (take (c′ .used + 3)) (o ∙ cond-true _ _ _ room) ∙ take-past-laid out′ (c′ .used) stopLine (omega arith) in
+    let long : length (take (c′ .used) out′ ++ stopLine) ≡ c′ .used + 3 = length-append (take (c′ .used) out′) stopLine ∙ ap (λ (n : ℕ). n + 3) (length-take-le (c′ .used) out′ (omega arith)) in
+    (used ∙ sym long ∙ ap length all, text ∙ all)

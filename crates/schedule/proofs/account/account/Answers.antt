@@ -1,0 +1,11 @@
+use mathlib.Core.Path.{sym}
+use native.Mathlib.Omega.{arith}
+use Rattle.output.proofs.Papers.{stopped}
+use Rattle.schedule.specs.Accounts.{accountLines}
+use Rattle.schedule.proofs.account.account.Needs as need
+
+pub returns-then-is-err : need.returns-then-is-err
+returns-then-is-err c =
+    let p = stopped (accountLines (c .args .schedule .now)) (c .args .out .now) (c .write-account .result) (c .write-account .last .count) (c .write-account .last .out) (c .write-stop .last .count) (c .write-stop .last .out)
+        (c .write-account .ensures) (sym (c .if-is-err .ensures tt .value)) (c .write-account .kept .out) (omega arith) (c .write-stop .ensures .text) (c .write-stop .ensures .used) in
+    (omega arith, p .0, p .1)
