@@ -28,7 +28,8 @@ fn write_account(schedule: &[u8], count: &mut Count, out: &mut [u8]) -> Result<(
 // Prints the account of a schedule on a paper, and answers how many bytes it has. A paper of under 64 bytes is full from
 // the beginning, and nothing is written on it.
 pub fn account(schedule: &[u8], out: &mut [u8]) -> Result<usize, Refusal>
-    ensures { λ r. ⌜ elim r [ Ok used ↦ (64 ≤ length (now (out .entry))) × (used ≡ length (accountOf (length (now (out .entry))) (now (schedule .entry)))) × (take used (now (out .exit)) ≡ accountOf (length (now (out .entry))) (now (schedule .entry))) | Err e ↦ (length (now (out .entry)) < 64) × (e ≡ PaperFull) × (now (out .exit) ≡ now (out .entry)) ] ⌝ }
+    ensures prints { λ r. ⌜ elim r [ Ok used ↦ (64 ≤ length (now (out .entry))) × (used ≡ length (accountOf (length (now (out .entry))) (now (schedule .entry)))) × (take used (now (out .exit)) ≡ accountOf (length (now (out .entry))) (now (schedule .entry))) | Err e ↦ (length (now (out .entry)) < 64) × (e ≡ PaperFull) × (now (out .exit) ≡ now (out .entry)) ] ⌝ }
+    ensures within { λ r. ⌜ elim r [ Ok used ↦ used ≤ length (now (out .exit)) | Err _ ↦ Unit {0} ] ⌝ }
 {
     if out.len() < 64 {
         return Err(Refusal::PaperFull);
