@@ -34,7 +34,14 @@ use values::records::Card;
 use values::records::Dial;
 
 // Makes a register from its lines, and prints its cells; or prints the bad line.
-fn print_made<K: Kind>(sizes: Sizes, t: &mut Tables<'_, K>, reader: &mut Reader, text: &[u8], count: &mut Count, out: &mut [u8]) -> Result<(), Refusal>
+fn print_made<K: Kind>(
+    sizes: Sizes,
+    t: &mut Tables<'_, K>,
+    reader: &mut Reader,
+    text: &[u8],
+    count: &mut Count,
+    out: &mut [u8],
+) -> Result<(), Refusal>
     requires { ⌜ Fits {V = K} (dimensionsOf sizes) (contentsOf K (now t)) ⌝ ∗ ⌜ now reader ≡ record { stage = Cells; left = sizes .cells; width = form .width } ⌝ }
     ensures { λ r. ⌜ WrittenAll (atCells form (sizes .cells) 3 [] (linesOf (now (text .entry)))) (now (count .entry)) (now (out .entry)) r (now (count .exit)) (now (out .exit)) ⌝ }
 {
@@ -55,9 +62,19 @@ fn sizes_of(head: HeadLine) -> Sizes
     }
 }
 
-const NO_JOB: JobRecord = JobRecord { standing: Standing::Closed, job: JobNumber(0), low: Place(0), high: Place(0) };
+const NO_JOB: JobRecord = JobRecord {
+    standing: Standing::Closed,
+    job: JobNumber(0),
+    low: Place(0),
+    high: Place(0),
+};
 
-const NO_ENTRY: Entry = Entry { job: JobNumber(0), crew: CrewNumber(0), place: Place(0), ending: Ending::Committed };
+const NO_ENTRY: Entry = Entry {
+    job: JobNumber(0),
+    crew: CrewNumber(0),
+    place: Place(0),
+    ending: Ending::Committed,
+};
 
 // How many rows a table has that goes by crew and then by cell.
 fn rows_of(crews: usize, cells: usize) -> usize
@@ -94,7 +111,15 @@ fn print_front<K: Kind>(
     let own = &mut own[0..rows];
     let flags = &mut flags[0..rows];
     let book = &mut book[0..entries];
-    let mut t = Tables { values, written, read, jobs, own, flags, book };
+    let mut t = Tables {
+        values,
+        written,
+        read,
+        jobs,
+        own,
+        flags,
+        book,
+    };
     let mut reader = opening.reader;
     reader.width = K::count();
     print_made(sizes, &mut t, &mut reader, opening.rest, count, out)
@@ -102,7 +127,13 @@ fn print_front<K: Kind>(
 
 // Lays out the other tables for the largest register of a schedule, 8 crews and 256 entries over 64 cells, and prints what
 // the lines make of them.
-fn print_kind<K: Kind>(opening: Opening<'_>, values: &mut [K], own: &mut [K], count: &mut Count, out: &mut [u8]) -> Result<(), Refusal>
+fn print_kind<K: Kind>(
+    opening: Opening<'_>,
+    values: &mut [K],
+    own: &mut [K],
+    count: &mut Count,
+    out: &mut [u8],
+) -> Result<(), Refusal>
     requires { ⌜ InRange (opening .head) ⌝ ∗ ⌜ opening .reader ≡ record { stage = Cells; left = opening .head .cells; width = 0 } ⌝ ∗ ⌜ (64 ≤ length (now values)) × (512 ≤ length (now own)) ⌝ }
     ensures { λ r. ⌜ WrittenAll (atCells form (opening .entry .head .cells) 3 [] (linesOf (now (opening .entry .rest)))) (now (count .entry)) (now (out .entry)) r (now (count .exit)) (now (out .exit)) ⌝ }
 {
@@ -111,18 +142,41 @@ fn print_kind<K: Kind>(opening: Opening<'_>, values: &mut [K], own: &mut [K], co
     let mut jobs = [NO_JOB; 8];
     let mut flags = [0; 512];
     let mut book = [NO_ENTRY; 256];
-    print_front(opening, values, &mut written, &mut read, &mut jobs, own, &mut flags, &mut book, count, out)
+    print_front(
+        opening,
+        values,
+        &mut written,
+        &mut read,
+        &mut jobs,
+        own,
+        &mut flags,
+        &mut book,
+        count,
+        out,
+    )
 }
 
 // Prints the account of a schedule whose first two lines were read.
-pub(crate) fn print_opened(opening: Opening<'_>, count: &mut Count, out: &mut [u8]) -> Result<(), Refusal>
+pub(crate) fn print_opened(
+    opening: Opening<'_>,
+    count: &mut Count,
+    out: &mut [u8],
+) -> Result<(), Refusal>
     requires { ⌜ InRange (opening .head) ⌝ ∗ ⌜ opening .reader ≡ record { stage = Cells; left = opening .head .cells; width = 0 } ⌝ }
     ensures { λ r. ⌜ WrittenAll (ofKind (opening .entry .head .kind) (opening .entry .head .cells) (linesOf (now (opening .entry .rest)))) (now (count .entry)) (now (out .entry)) r (now (count .exit)) (now (out .exit)) ⌝ }
 {
     match opening.head.kind {
         KindName::Card => {
-            let mut values = [Card { serial: 0, litres: 0, gateway: 0 }; 64];
-            let mut own = [Card { serial: 0, litres: 0, gateway: 0 }; 512];
+            let mut values = [Card {
+                serial: 0,
+                litres: 0,
+                gateway: 0,
+            }; 64];
+            let mut own = [Card {
+                serial: 0,
+                litres: 0,
+                gateway: 0,
+            }; 512];
             print_kind(opening, &mut values, &mut own, count, out)
         }
         KindName::Dial => {

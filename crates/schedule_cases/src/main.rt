@@ -25,7 +25,11 @@ fn case_end(text: &[u8]) -> usize
 // The first case of an input behind its `#`, and the input from the next `#` on.
 fn next_case(text: &[u8]) -> (&[u8], &[u8]) {
     let end = case_end(text);
-    if end < text.len() { (&text[0..end], &text[end + 1..]) } else { (text, &text[end..]) }
+    if end < text.len() {
+        (&text[0..end], &text[end + 1..])
+    } else {
+        (text, &text[end..])
+    }
 }
 
 // Prints the account of one case on the front of a paper.

@@ -26,7 +26,7 @@ cut-none s (x ∷ xs) f =
     (simp t (ap (λ (l : List ℕ). x ∷ l) (r .0)), simp t (r .1))
 
 lines-step : (x y : ℕ) (ys : List ℕ) (b : Bool) → linesOf (y ∷ ys) ≡ before 10 (y ∷ ys) ∷ linesOf (after 10 (y ∷ ys))
-  → cond b ([] ∷ linesOf (y ∷ ys)) (joined x (linesOf (y ∷ ys))) ≡ cond b [] (x ∷ before 10 (y ∷ ys)) ∷ linesOf (cond b (y ∷ ys) (after 10 (y ∷ ys)))
+    → cond b ([] ∷ linesOf (y ∷ ys)) (joined x (linesOf (y ∷ ys))) ≡ cond b [] (x ∷ before 10 (y ∷ ys)) ∷ linesOf (cond b (y ∷ ys) (after 10 (y ∷ ys)))
 lines-step x y ys true h = refl
 lines-step x y ys false h = ap (joined x) h
 
