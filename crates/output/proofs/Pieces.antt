@@ -1,3 +1,4 @@
+-- Pieces of a line, one after another.
 use mathlib.Core.Path.{_≡_, refl, sym, ap, subst, _∙_}
 use mathlib.Core.Bool.{Bool, true, false, cond}
 use mathlib.Core.List.{List, [], _∷_, _++_}
@@ -24,14 +25,6 @@ writes-true u xs ps v ys h e d = record {
   used = λ _. e;
   text = λ _. d;
   below = ap (take u) d ∙ take-laid xs u ps (omega arith);
-}
-
-pub writes-false : (u : ℕ) (xs ps : List ℕ) (v : ℕ) → length xs < u + length ps + 64 → Writes u xs ps false v xs
-writes-false u xs ps v h = record {
-  fits = sym (lt-leb (u + length ps + 64) (length xs) h);
-  used = λ t. absurd (let z : _≡_ {A = ℕ} 0 1 = cc in omega arith);
-  text = λ t. absurd (let z : _≡_ {A = ℕ} 0 1 = cc in omega arith);
-  below = refl;
 }
 
 -- a part after a part that stands

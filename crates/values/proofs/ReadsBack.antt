@@ -15,7 +15,7 @@ use Rattle.std.proofs.shelf.Lists.{append-nil}
 use Rattle.std.proofs.shelf.Tests.{and-parts, ne-eqb, leb-true}
 use Rattle.text.specs.Numbers.{isDigit, numberIn}
 use Rattle.text.specs.Split.{before, after}
-use Rattle.text.proofs.Back.{reads-back, digitsOnly, only-digits}
+use Rattle.text.proofs.Decimals.{reads-back, digitsOnly, only-digits}
 use Rattle.values.specs.Forms.{Form, afterCommas, written, readFrom, isNumber, inRange}
 
 no-comma : (c : ℕ) → isDigit c ≡ true → eqb c 44 ≡ false

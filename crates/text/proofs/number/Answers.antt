@@ -4,7 +4,7 @@ use lib.ListN.{getD}
 use Prim.Native.Nat.{_-_, _≤_}
 use Rattle.std.proofs.shelf.Lists.{at-drop-all}
 use Rattle.text.specs.Numbers.{digitsAfter}
-use Rattle.text.proofs.Reading.{read-more, read-stop, low-stops, high-stops, more-lt, more-fits, in-bounds}
+use Rattle.text.proofs.Reading.{read-more, read-stop, below-digits, above-digits, more-lt, more-fits, in-bounds}
 use Rattle.text.proofs.number.Needs as need
 use Rattle.text.proofs.number.Needs.{then-b-lt48·by·then-b-lt48, then-b-lt48·by·else-b-lt48·then-b-gt57}
 
@@ -12,8 +12,8 @@ pub returns-then-b-lt48 : need.returns-then-b-lt48
 returns-then-b-lt48 c =
     let b = in-bounds (c .args .field .now) (omega arith) (omega arith) in
     elim (c .then-b-lt48 .came) [
-      | then-b-lt48·by·then-b-lt48 w ↦ sym (b ∙ sym (c .loop-b .inv .0) ∙ read-stop (c .args .field .now) (c .loop-b .b-index) (c .loop-b .n) (c .loop-b-test .taken) (low-stops _ (w .if-b-lt48 .taken)))
-      | then-b-lt48·by·else-b-lt48·then-b-gt57 w ↦ sym (b ∙ sym (c .loop-b .inv .0) ∙ read-stop (c .args .field .now) (c .loop-b .b-index) (c .loop-b .n) (c .loop-b-test .taken) (high-stops _ (w .if-b-gt57 .taken)))
+      | then-b-lt48·by·then-b-lt48 w ↦ sym (b ∙ sym (c .loop-b .inv .0) ∙ read-stop (c .args .field .now) (c .loop-b .b-index) (c .loop-b .n) (c .loop-b-test .taken) (below-digits _ (w .if-b-lt48 .taken)))
+      | then-b-lt48·by·else-b-lt48·then-b-gt57 w ↦ sym (b ∙ sym (c .loop-b .inv .0) ∙ read-stop (c .args .field .now) (c .loop-b .b-index) (c .loop-b .n) (c .loop-b-test .taken) (above-digits _ (w .if-b-gt57 .taken)))
     ]
 
 pub mul-n : need.mul-n
