@@ -1,0 +1,81 @@
+// Histories of a register's calls, and the theorems about them. The functions return nothing of use: each has a theorem for its contract.
+ghost use Rattle.history.specs.Theorems.{RespectfulOrdersExplain, AscendingRowsAreOrders, PlacesGiveAnOrder, MovedBoundsAgree, BoundsAreOpaque, ViewsAreOpaque};
+ghost use Rattle.history.specs.Theorems.{AnswersDoNotMatter, ViewsArePermissive, PositionsAreAccepted, ScriptsKeepTheLaw, ScriptsArePermissive, PositionsMakeAScript, ChosenPlacesGiveAnOrder};
+
+pub fn respectful_orders_explain<V>() -> u8
+    ensures { λ _. ⌜ RespectfulOrdersExplain V ⌝ }
+{
+    0
+}
+
+pub fn ascending_rows_are_orders<V>() -> u8
+    ensures { λ _. ⌜ AscendingRowsAreOrders V ⌝ }
+{
+    0
+}
+
+pub fn places_give_an_order<V>() -> u8
+    ensures { λ _. ⌜ PlacesGiveAnOrder V ⌝ }
+{
+    0
+}
+
+pub fn moved_bounds_agree<V>() -> u8
+    ensures { λ _. ⌜ MovedBoundsAgree V ⌝ }
+{
+    0
+}
+
+pub fn bounds_are_opaque<V>() -> u8
+    ensures { λ _. ⌜ BoundsAreOpaque V ⌝ }
+{
+    0
+}
+
+pub fn views_are_opaque<V>() -> u8
+    ensures { λ _. ⌜ ViewsAreOpaque V ⌝ }
+{
+    0
+}
+
+pub fn answers_do_not_matter<V>() -> u8
+    ensures { λ _. ⌜ AnswersDoNotMatter V ⌝ }
+{
+    0
+}
+
+pub fn views_are_permissive<V>() -> u8
+    ensures { λ _. ⌜ ViewsArePermissive V ⌝ }
+{
+    0
+}
+
+pub fn positions_are_accepted<V>() -> u8
+    ensures { λ _. ⌜ PositionsAreAccepted V ⌝ }
+{
+    0
+}
+
+pub fn scripts_keep_the_law() -> u8
+    ensures { λ _. ⌜ ScriptsKeepTheLaw ⌝ }
+{
+    0
+}
+
+pub fn scripts_are_permissive<V>() -> u8
+    ensures { λ _. ⌜ ScriptsArePermissive V ⌝ }
+{
+    0
+}
+
+pub fn positions_make_a_script<V>() -> u8
+    ensures { λ _. ⌜ PositionsMakeAScript V ⌝ }
+{
+    0
+}
+
+pub fn chosen_places_give_an_order<V, C>() -> u8
+    ensures { λ _. ⌜ ChosenPlacesGiveAnOrder V C ⌝ }
+{
+    0
+}
