@@ -141,19 +141,22 @@ module _ {V : Type 0} (top n : ℕ) (first : ℕ → V) (at : ℕ → ℕ) (run 
 
     open-fits : PlacesFit at (by w opens ∷ run) (viewAfter top n s w opens)
     open-fits = record {
-        low-is = λ u a. low u (eqb w u) a;
-        high-is = λ u a. high u (eqb w u) a;
-        written-is = marks-on (by (suc (openings run)) opens);
-        read-is = reads-on (by (suc (openings run)) opens);
-        highest-is = highest-on (by (suc (openings run)) opens);
-        flag-is = λ u c q. flag u c (eqb w u) refl q }
+      low-is = λ u a. low u (eqb w u) a;
+      high-is = λ u a. high u (eqb w u) a;
+      written-is = marks-on (by (suc (openings run)) opens);
+      read-is = reads-on (by (suc (openings run)) opens);
+      highest-is = highest-on (by (suc (openings run)) opens);
+      flag-is = λ u c q. flag u c (eqb w u) refl q;
+    }
       where
         low : (u : ℕ) (b : Bool) → 1 ≤ cond b (suc (openings run)) (openJob run u) → cond b (s .highest) (s .low u) < at (cond b (suc (openings run)) (openJob run u))
         low u true a = new-above
         low u false a = fits .low-is u a
+
         high : (u : ℕ) (b : Bool) → 1 ≤ cond b (suc (openings run)) (openJob run u) → at (cond b (suc (openings run)) (openJob run u)) < cond b top (s .high u)
         high u true a = omega (arith, new-within .1)
         high u false a = fits .high-is u a
+
         flag : (u c : ℕ) (b : Bool) → eqb w u ≡ b → s .hasRead u c ≡ true → (1 ≤ cond b (suc (openings run)) (openJob run u)) × ReadGlobally (by (suc (openings run)) opens ∷ byJobs run) (cond b (suc (openings run)) (openJob run u)) c
         flag u c true e q = absurd (omega (arith, fits .flag-is u c q .0, j, ap (openJob run) (eqb-true w u e)))
         flag u c false e q = flags-on (by (suc (openings run)) opens) u c q
@@ -168,25 +171,30 @@ module _ {V : Type 0} (top n : ℕ) (first : ℕ → V) (at : ℕ → ℕ) (run 
 
     read-fits : PlacesFit at (by w (reads c v) ∷ run) (viewAfter top n s w (reads c v))
     read-fits = record {
-        low-is = λ u b. low u (eqb w u) refl b;
-        high-is = fits .high-is;
-        written-is = marks-on (by (openJob run w) (reads c v));
-        read-is = reads-on (by (openJob run w) (reads c v));
-        highest-is = highest-on (by (openJob run w) (reads c v));
-        flag-is = λ u k q. flag u k (eqb w u) refl q }
+      low-is = λ u b. low u (eqb w u) refl b;
+      high-is = fits .high-is;
+      written-is = marks-on (by (openJob run w) (reads c v));
+      read-is = reads-on (by (openJob run w) (reads c v));
+      highest-is = highest-on (by (openJob run w) (reads c v));
+      flag-is = λ u k q. flag u k (eqb w u) refl q;
+    }
       where
         mine : (b : Bool) → s .hasWritten w c ≡ b → cond b (s .low w) (max (s .low w) (s .written c)) < at (openJob run w)
         mine true q = fits .low-is w a
         mine false q = omega (arith, written-below q, fits .low-is w a)
+
         low : (u : ℕ) (b : Bool) → eqb w u ≡ b → 1 ≤ openJob run u → cond b (cond (s .hasWritten w c) (s .low w) (max (s .low w) (s .written c))) (s .low u) < at (openJob run u)
         low u true q b = rw (← eqb-true w u q) (mine (s .hasWritten w c) refl)
         low u false q b = fits .low-is u b
+
         inner : (b : Bool) → s .hasWritten w c ≡ b → cond b (s .hasRead w c) true ≡ true → (1 ≤ openJob run w) × ReadGlobally (by (openJob run w) (reads c v) ∷ byJobs run) (openJob run w) c
         inner true q t = flags-on (by (openJob run w) (reads c v)) w c t
         inner false q t = (a, record { value = v; before = byJobs run; occurs = here; unwritten = not-flag w c a q })
+
         at-cell : (k : ℕ) (b : Bool) → eqb c k ≡ b → cond b (cond (s .hasWritten w c) (s .hasRead w c) true) (s .hasRead w k) ≡ true → (1 ≤ openJob run w) × ReadGlobally (by (openJob run w) (reads c v) ∷ byJobs run) (openJob run w) k
         at-cell k true q t = subst (λ z. (1 ≤ openJob run w) × ReadGlobally (by (openJob run w) (reads c v) ∷ byJobs run) (openJob run w) z) (eqb-true c k q) (inner (s .hasWritten w c) refl t)
         at-cell k false q t = flags-on (by (openJob run w) (reads c v)) w k t
+
         flag : (u k : ℕ) (b : Bool) → eqb w u ≡ b → cond b (updated (s .hasRead w) c (cond (s .hasWritten w c) (s .hasRead w c) true)) (s .hasRead u) k ≡ true → (1 ≤ openJob run u) × ReadGlobally (by (openJob run w) (reads c v) ∷ byJobs run) (openJob run u) k
         flag u k true q t = subst (λ z. (1 ≤ openJob run z) × ReadGlobally (by (openJob run w) (reads c v) ∷ byJobs run) (openJob run z) k) (eqb-true w u q) (at-cell k (eqb c k) refl t)
         flag u k false q t = flags-on (by (openJob run w) (reads c v)) u k t
@@ -198,11 +206,13 @@ module _ {V : Type 0} (top n : ℕ) (first : ℕ → V) (at : ℕ → ℕ) (run 
 
     write-fits : PlacesFit at (by w (writes c v) ∷ run) (viewAfter top n s w (writes c v))
     write-fits = record {
-      low-is = fits .low-is; high-is = fits .high-is;
+      low-is = fits .low-is;
+      high-is = fits .high-is;
       written-is = marks-on (by (openJob run w) (writes c v));
       read-is = reads-on (by (openJob run w) (writes c v));
       highest-is = highest-on (by (openJob run w) (writes c v));
-      flag-is = flags-on (by (openJob run w) (writes c v)) }
+      flag-is = flags-on (by (openJob run w) (writes c v));
+    }
 
   ---- what both endings leave
   module _ (w : ℕ) (a : 1 ≤ openJob run w) (act : Event V V ℕ) (en : Ended (act ∷ byJobs run) (openJob run w)) where
@@ -233,37 +243,44 @@ module _ {V : Type 0} (top n : ℕ) (first : ℕ → V) (at : ℕ → ℕ) (run 
     low-one = omega (arith, fits .low-is w a)
 
     cell-below : (c : ℕ) → s .hasWritten w c ≡ true → (s .written c < at (openJob run w)) × (s .read c < at (openJob run w))
-    cell-below c q = (mark-below at _ (s .written c) (at (openJob run w)) low-one (λ y k. f .rises y (openJob run w) (other y (committed-ended k)) (committed-committed here (wrote c q) k)) (fits .written-is c),
-      mark-below at _ (s .read c) (at (openJob run w)) low-one (λ y k. f .rises y (openJob run w) (other y (k .1)) (read-committed here (wrote c q) (k .0))) (fits .read-is c))
+    cell-below c q = (
+      mark-below at _ (s .written c) (at (openJob run w)) low-one (λ y k. f .rises y (openJob run w) (other y (committed-ended k)) (committed-committed here (wrote c q) k)) (fits .written-is c),
+      mark-below at _ (s .read c) (at (openJob run w)) low-one (λ y k. f .rises y (openJob run w) (other y (k .1)) (read-committed here (wrote c q) (k .0))) (fits .read-is c),
+    )
 
     reader-below : (u : ℕ) → (u ≡ w → ⊥) → conflicts s w u n ≡ true → at (openJob run u) < at (openJob run w)
     reader-below u ne q =
-      let k = conflicts-to s w u n q in
-      let r = fits .flag-is u (k .0) (k .1) in
-      f .rises (openJob run u) (openJob run w) (λ e. ne (one-crew run u w (r .0) e)) (read-committed here (wrote (k .0) (k .2)) (r .1))
+        let k = conflicts-to s w u n q in
+        let r = fits .flag-is u (k .0) (k .1) in
+        f .rises (openJob run u) (openJob run w) (λ e. ne (one-crew run u w (r .0) e)) (read-committed here (wrote (k .0) (k .2)) (r .1))
 
     commit-accepted : Accepts top n s w (commits (at (openJob run w)))
     commit-accepted = (has w a, fits .low-is w a, fits .high-is w a, cell-below, λ u ne b q. omega (arith, reader-below u ne q, fits .low-is u (rw (← bk .job-is u) b)))
 
     commit-fits : PlacesFit at (by w (commits (at (openJob run w))) ∷ run) (viewAfter top n s w (commits (at (openJob run w))))
     commit-fits = record {
-        low-is = λ u l. ended-low w a act en u (eqb w u) l;
-        high-is = λ u l. high u (eqb w u) refl l;
-        written-is = λ c. marked c (s .hasWritten w c) refl;
-        read-is = λ c. ended-reads w a act en c (s .hasRead w c) refl;
-        highest-is = ended-highest w a act en;
-        flag-is = λ u c q. ended-flags w a act en u c (eqb w u) q }
+      low-is = λ u l. ended-low w a act en u (eqb w u) l;
+      high-is = λ u l. high u (eqb w u) refl l;
+      written-is = λ c. marked c (s .hasWritten w c) refl;
+      read-is = λ c. ended-reads w a act en c (s .hasRead w c) refl;
+      highest-is = ended-highest w a act en;
+      flag-is = λ u c q. ended-flags w a act en u c (eqb w u) q;
+    }
       where
         act : Event V V ℕ
         act = by (openJob run w) (commits (at (openJob run w)))
+
         en : Ended (act ∷ byJobs run) (openJob run w)
         en = record { place = at (openJob run w); before = byJobs run; occurs = inl here }
+
         inner : (u : ℕ) → (u ≡ w → ⊥) → 1 ≤ openJob run u → (b : Bool) → conflicts s w u n ≡ b → at (openJob run u) < cond b (min (s .high u) (at (openJob run w))) (s .high u)
         inner u ne l true q = omega (arith, reader-below u ne q, fits .high-is u l)
         inner u ne l false q = fits .high-is u l
+
         high : (u : ℕ) (b : Bool) → eqb w u ≡ b → 1 ≤ cond b 0 (openJob run u) → at (cond b 0 (openJob run u)) < cond b 0 (cond (conflicts s w u n) (min (s .high u) (at (openJob run w))) (s .high u))
         high u true e l = absurd (omega arith)
         high u false e l = inner u (λ q. eqb-false w u e (sym q)) l (conflicts s w u n) refl
+
         marked : (c : ℕ) (b : Bool) → s .hasWritten w c ≡ b → Mark at (λ y. CommittedCell (act ∷ byJobs run) y c) (cond b (at (openJob run w)) (s .written c))
         marked c true q = inr (openJob run w, record { place = at (openJob run w); before = byJobs run; occurs = here; wrote = wrote c q }, refl)
         marked c false q = marks-on act c
@@ -275,17 +292,20 @@ module _ {V : Type 0} (top n : ℕ) (first : ℕ → V) (at : ℕ → ℕ) (run 
 
     abandon-fits : PlacesFit at (by w (abandons (at (openJob run w))) ∷ run) (viewAfter top n s w (abandons (at (openJob run w))))
     abandon-fits = record {
-        low-is = λ u l. ended-low w a act en u (eqb w u) l;
-        high-is = λ u l. high u (eqb w u) l;
-        written-is = marks-on act;
-        read-is = λ c. ended-reads w a act en c (s .hasRead w c) refl;
-        highest-is = ended-highest w a act en;
-        flag-is = λ u c q. ended-flags w a act en u c (eqb w u) q }
+      low-is = λ u l. ended-low w a act en u (eqb w u) l;
+      high-is = λ u l. high u (eqb w u) l;
+      written-is = marks-on act;
+      read-is = λ c. ended-reads w a act en c (s .hasRead w c) refl;
+      highest-is = ended-highest w a act en;
+      flag-is = λ u c q. ended-flags w a act en u c (eqb w u) q;
+    }
       where
         act : Event V V ℕ
         act = by (openJob run w) (abandons (at (openJob run w)))
+
         en : Ended (act ∷ byJobs run) (openJob run w)
         en = record { place = at (openJob run w); before = byJobs run; occurs = inr here }
+
         high : (u : ℕ) (b : Bool) → 1 ≤ cond b 0 (openJob run u) → at (cond b 0 (openJob run u)) < cond b 0 (s .high u)
         high u true l = absurd (omega arith)
         high u false l = fits .high-is u l
@@ -308,57 +328,83 @@ module _ {V : Type 0} (top n m : ℕ) (first : ℕ → V) (own : ℕ → ℕ →
   accepted-so-far : (cs : Calls V) → WellMade cs → InRange n m cs → RisingPlaces top at cs → AcceptedSoFar cs
   accepted-so-far [] wm r f = record {
     accepted = record { run = []; view = freshView first own; same-calls = refl; same-places = refl; view-run = starts };
-    fits = record { low-is = λ w a. absurd (omega arith); high-is = λ w a. absurd (omega arith); written-is = λ c. inl refl; read-is = λ c. inl refl; highest-is = inl refl; flag-is = λ w c q. absurd (both-ways false refl q) } }
+    fits = record { low-is = λ w a. absurd (omega arith); high-is = λ w a. absurd (omega arith); written-is = λ c. inl refl; read-is = λ c. inl refl; highest-is = inl refl; flag-is = λ w c q. absurd (both-ways false refl q) };
+  }
   accepted-so-far (by w opens ∷ cs) wm r f =
-    let g = accepted-so-far cs (wm .1) (r .2) (rising-tail top at w opens cs f) in
-    let j = job-alike (alike g) w ∙ wm .0 in
-    let k = rising-alike top at (more open-open (alike-sym (alike g))) f in
-    record {
-      accepted = record { run = by w opens ∷ g .accepted .run; view = viewAfter top n (g .accepted .view) w opens;
-        same-calls = ap (λ z. by w opens ∷ z) (g .accepted .same-calls); same-places = g .accepted .same-places;
-        view-run = goes-on (g .accepted .view-run) (open-accepted top n first at (g .accepted .run) (g .accepted .view) (run-facts-of g) (g .fits) w j k) };
-      fits = open-fits top n first at (g .accepted .run) (g .accepted .view) (run-facts-of g) (g .fits) w j k }
+      let g = accepted-so-far cs (wm .1) (r .2) (rising-tail top at w opens cs f) in
+      let j = job-alike (alike g) w ∙ wm .0 in
+      let k = rising-alike top at (more open-open (alike-sym (alike g))) f in
+      record {
+        accepted = record {
+          run = by w opens ∷ g .accepted .run;
+          view = viewAfter top n (g .accepted .view) w opens;
+          same-calls = ap (λ z. by w opens ∷ z) (g .accepted .same-calls);
+          same-places = g .accepted .same-places;
+          view-run = goes-on (g .accepted .view-run) (open-accepted top n first at (g .accepted .run) (g .accepted .view) (run-facts-of g) (g .fits) w j k);
+        };
+        fits = open-fits top n first at (g .accepted .run) (g .accepted .view) (run-facts-of g) (g .fits) w j k;
+      }
   accepted-so-far (by w (reads c t) ∷ cs) wm r f =
-    let g = accepted-so-far cs (wm .1) (r .4) (rising-tail top at w (reads c t) cs f) in
-    let s = g .accepted .view in
-    let v = cond (s .hasWritten w c) (s .own w c) (s .value c) in
-    let a = busy g w (wm .0) in
-    let k = rising-alike top at (more read-read (alike-sym (alike g))) f in
-    record {
-      accepted = record { run = by w (reads c v) ∷ g .accepted .run; view = viewAfter top n s w (reads c v);
-        same-calls = ap (λ z. by w (reads c t) ∷ z) (g .accepted .same-calls); same-places = g .accepted .same-places;
-        view-run = goes-on (g .accepted .view-run) (read-accepted top n first at (g .accepted .run) s (run-facts-of g) (g .fits) w c v a refl k) };
-      fits = read-fits top n first at (g .accepted .run) s (run-facts-of g) (g .fits) w c v a refl k }
+      let g = accepted-so-far cs (wm .1) (r .4) (rising-tail top at w (reads c t) cs f) in
+      let s = g .accepted .view in
+      let v = cond (s .hasWritten w c) (s .own w c) (s .value c) in
+      let a = busy g w (wm .0) in
+      let k = rising-alike top at (more read-read (alike-sym (alike g))) f in
+      record {
+        accepted = record {
+          run = by w (reads c v) ∷ g .accepted .run;
+          view = viewAfter top n s w (reads c v);
+          same-calls = ap (λ z. by w (reads c t) ∷ z) (g .accepted .same-calls);
+          same-places = g .accepted .same-places;
+          view-run = goes-on (g .accepted .view-run) (read-accepted top n first at (g .accepted .run) s (run-facts-of g) (g .fits) w c v a refl k);
+        };
+        fits = read-fits top n first at (g .accepted .run) s (run-facts-of g) (g .fits) w c v a refl k;
+      }
   accepted-so-far (by w (writes c v) ∷ cs) wm r f =
-    let g = accepted-so-far cs (wm .1) (r .4) (rising-tail top at w (writes c v) cs f) in
-    let s = g .accepted .view in
-    let a = busy g w (wm .0) in
-    record {
-      accepted = record { run = by w (writes c v) ∷ g .accepted .run; view = viewAfter top n s w (writes c v);
-        same-calls = ap (λ z. by w (writes c v) ∷ z) (g .accepted .same-calls); same-places = g .accepted .same-places;
-        view-run = goes-on (g .accepted .view-run) (write-accepted top n first at (g .accepted .run) s (run-facts-of g) (g .fits) w c v a (r .2) (r .3)) };
-      fits = write-fits top n first at (g .accepted .run) s (run-facts-of g) (g .fits) w c v a (r .2) (r .3) }
+      let g = accepted-so-far cs (wm .1) (r .4) (rising-tail top at w (writes c v) cs f) in
+      let s = g .accepted .view in
+      let a = busy g w (wm .0) in
+      record {
+        accepted = record {
+          run = by w (writes c v) ∷ g .accepted .run;
+          view = viewAfter top n s w (writes c v);
+          same-calls = ap (λ z. by w (writes c v) ∷ z) (g .accepted .same-calls);
+          same-places = g .accepted .same-places;
+          view-run = goes-on (g .accepted .view-run) (write-accepted top n first at (g .accepted .run) s (run-facts-of g) (g .fits) w c v a (r .2) (r .3));
+        };
+        fits = write-fits top n first at (g .accepted .run) s (run-facts-of g) (g .fits) w c v a (r .2) (r .3);
+      }
   accepted-so-far (by w (commits t) ∷ cs) wm r f =
-    let g = accepted-so-far cs (wm .1) (r .2) (rising-tail top at w (commits t) cs f) in
-    let s = g .accepted .view in
-    let p = at (openJob (g .accepted .run) w) in
-    let a = busy g w (wm .0) in
-    let k = rising-alike top at (more commit-commit (alike-sym (alike g))) f in
-    record {
-      accepted = record { run = by w (commits p) ∷ g .accepted .run; view = viewAfter top n s w (commits p);
-        same-calls = ap (λ z. by w (commits t) ∷ z) (g .accepted .same-calls); same-places = ap₂ _∷_ (ap at (job-alike (alike g) w)) (g .accepted .same-places);
-        view-run = goes-on (g .accepted .view-run) (commit-accepted top n first at (g .accepted .run) s (run-facts-of g) (g .fits) w a k) };
-      fits = commit-fits top n first at (g .accepted .run) s (run-facts-of g) (g .fits) w a k }
+      let g = accepted-so-far cs (wm .1) (r .2) (rising-tail top at w (commits t) cs f) in
+      let s = g .accepted .view in
+      let p = at (openJob (g .accepted .run) w) in
+      let a = busy g w (wm .0) in
+      let k = rising-alike top at (more commit-commit (alike-sym (alike g))) f in
+      record {
+        accepted = record {
+          run = by w (commits p) ∷ g .accepted .run;
+          view = viewAfter top n s w (commits p);
+          same-calls = ap (λ z. by w (commits t) ∷ z) (g .accepted .same-calls);
+          same-places = ap₂ _∷_ (ap at (job-alike (alike g) w)) (g .accepted .same-places);
+          view-run = goes-on (g .accepted .view-run) (commit-accepted top n first at (g .accepted .run) s (run-facts-of g) (g .fits) w a k);
+        };
+        fits = commit-fits top n first at (g .accepted .run) s (run-facts-of g) (g .fits) w a k;
+      }
   accepted-so-far (by w (abandons t) ∷ cs) wm r f =
-    let g = accepted-so-far cs (wm .1) (r .2) (rising-tail top at w (abandons t) cs f) in
-    let s = g .accepted .view in
-    let p = at (openJob (g .accepted .run) w) in
-    let a = busy g w (wm .0) in
-    record {
-      accepted = record { run = by w (abandons p) ∷ g .accepted .run; view = viewAfter top n s w (abandons p);
-        same-calls = ap (λ z. by w (abandons t) ∷ z) (g .accepted .same-calls); same-places = ap₂ _∷_ (ap at (job-alike (alike g) w)) (g .accepted .same-places);
-        view-run = goes-on (g .accepted .view-run) (abandon-accepted top n first at (g .accepted .run) s (run-facts-of g) (g .fits) w a) };
-      fits = abandon-fits top n first at (g .accepted .run) s (run-facts-of g) (g .fits) w a }
+      let g = accepted-so-far cs (wm .1) (r .2) (rising-tail top at w (abandons t) cs f) in
+      let s = g .accepted .view in
+      let p = at (openJob (g .accepted .run) w) in
+      let a = busy g w (wm .0) in
+      record {
+        accepted = record {
+          run = by w (abandons p) ∷ g .accepted .run;
+          view = viewAfter top n s w (abandons p);
+          same-calls = ap (λ z. by w (abandons t) ∷ z) (g .accepted .same-calls);
+          same-places = ap₂ _∷_ (ap at (job-alike (alike g) w)) (g .accepted .same-places);
+          view-run = goes-on (g .accepted .view-run) (abandon-accepted top n first at (g .accepted .run) s (run-facts-of g) (g .fits) w a);
+        };
+        fits = abandon-fits top n first at (g .accepted .run) s (run-facts-of g) (g .fits) w a;
+      }
 
   pub rising-accepted : (cs : Calls V) → WellMade cs → InRange n m cs → RisingPlaces top at cs → AcceptedAt top n first own cs (positions at cs)
   rising-accepted cs wm r f = accepted-so-far cs wm r f .accepted

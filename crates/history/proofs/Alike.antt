@@ -148,7 +148,8 @@ module _ {V R P S Q : Type 0} where
     once = l .once;
     all = λ x p q. l .all x p (rw (openings-alike a) q);
     only = λ x i. let k = l .only x i in (k .0, rw (← openings-alike a) (k .1));
-    rules = λ x y i j n b. l .rules x y i j n (precedes-alike (alike-sym a) b) }
+    rules = λ x y i j n b. l .rules x y i j n (precedes-alike (alike-sym a) b);
+  }
 
 pub calls-alike : {V : Type 0} (run : History V) → Alike run (callsOf run)
 calls-alike [] = none

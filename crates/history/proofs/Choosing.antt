@@ -29,7 +29,8 @@ script-between (k ∷ ks) low high l = go (ltb low k && ltb k high) refl
 pub script-keeps-law : KeepsLaw scriptChooser
 script-keeps-law = record {
   between = λ ks low high l. rw (le-leb (low + 2) high l) (script-between ks low high l);
-  unmoved-without-room = λ ks low high l. rw (lt-leb (low + 2) high l) (refl, refl) }
+  unmoved-without-room = λ ks low high l. rw (lt-leb (low + 2) high l) (refl, refl);
+}
 
 -- a number of the script that lies between the bounds is given
 script-gives : (k : ℕ) (ks : List ℕ) (low high : ℕ) → low < k → k < high → (scriptChooser .gives (k ∷ ks) low high ≡ k) × (scriptChooser .next (k ∷ ks) low high ≡ ks)
@@ -42,9 +43,9 @@ module _ {V : Type 0} (n : ℕ) (s : RegisterView V) (w : ℕ) where
 
   reader-parts : (u : ℕ) → isOpenReader n s w u ≡ true → (u ≡ w → ⊥) × (1 ≤ s .job u) × (conflicts s w u n ≡ true)
   reader-parts u q =
-    let k = and-parts (not (eqb u w)) (leb 1 (s .job u) && conflicts s w u n) q in
-    let i = and-parts (leb 1 (s .job u)) (conflicts s w u n) (k .1) in
-    (differ (eqb u w) refl (k .0), leb-true 1 (s .job u) (i .0), i .1)
+      let k = and-parts (not (eqb u w)) (leb 1 (s .job u) && conflicts s w u n) q in
+      let i = and-parts (leb 1 (s .job u)) (conflicts s w u n) (k .1) in
+      (differ (eqb u w) refl (k .0), leb-true 1 (s .job u) (i .0), i .1)
     where
       differ : (b : Bool) → eqb u w ≡ b → not b ≡ true → u ≡ w → ⊥
       differ true e t = absurd (both-ways false refl t)
@@ -114,8 +115,10 @@ module _ {V : Type 0} (z : Sizes) (first : ℕ → V) (own : ℕ → ℕ → V) 
       where
         between : (commitLowerBound (z .cells) (z .crews) s w < p) × (p < s .high w)
         between = rw (sv .2) (fair .between k (commitLowerBound (z .cells) (z .crews) s w) (s .high w) (sv .1))
+
         cells : (c : ℕ) → s .hasWritten w c ≡ true → (s .written c < p) × (s .read c < p)
         cells c q = let i = aw .view-facts .range w c q in let f = cell-below-bound (z .cells) s w (z .cells) c (i .0) (i .1) q in let b = between in (omega arith, omega arith)
+
         crews : (u : ℕ) → (u ≡ w → ⊥) → 1 ≤ s .job u → conflicts s w u (z .cells) ≡ true → s .low u + 1 < p
         crews u ne j q = let i = job-range (z .cells) (z .crews) run r u (rw (← aw .view-facts .job-is u) j) in let f = reader-below-bound (z .cells) s w (z .crews) u (i .0) (i .1) (reader-yes (z .cells) s w u ne j q) in let b = between in omega arith
     with-accepts k run s aw r w (abandons p) sv = let b = fair .between k (s .low w) (s .high w) (sv .0 .room) in (sv .0 .a-job, rw (sv .1) (b .0), rw (sv .1) (b .1))
@@ -130,8 +133,8 @@ module _ {V : Type 0} (z : Sizes) (first : ℕ → V) (own : ℕ → ℕ → V) 
     run-with-view-run : {k₀ : C} {run : History V} {s : RegisterView V} {k : C} → RunWith ch z first own k₀ run s k → ViewRun (z .top) (z .cells) first own run s × InRange (z .cells) (z .crews) run
     run-with-view-run RunWith.starts = (ViewRun.starts, tt)
     run-with-view-run (RunWith.goes-on {run = run} {s = s} {k = k} {w = w} {o = d} g sv) =
-      let i = run-with-view-run g in
-      (ViewRun.goes-on (i .0) (with-accepts k run s (run-facts (z .top) (z .cells) first own (i .0)) (i .1) w d sv), with-in-range k run s (i .1) w d sv)
+        let i = run-with-view-run g in
+        (ViewRun.goes-on (i .0) (with-accepts k run s (run-facts (z .top) (z .cells) first own (i .0)) (i .1) w d sv), with-in-range k run s (i .1) w d sv)
 
     pub chosen-has-order : (k₀ : C) (cs : Calls V) → 2 ≤ z .top → AcceptedWith ch z first own k₀ cs → (row : List ℕ) × SerializationOrder (byJobs cs) row
     chosen-has-order k₀ cs t a = accepted-has-order first own (z .top) (z .cells) cs (placesOf (a .run)) t (record { run = a .run; view = a .view; same-calls = a .same-calls; same-places = refl; view-run = run-with-view-run (a .run-with) .0 })
@@ -172,13 +175,13 @@ module _ {V : Type 0} (z : Sizes) (first : ℕ → V) (own : ℕ → ℕ → V) 
   accepts-by-script run s aw hb w (reads c v) ac r f ih qs = RunWith.goes-on (ih qs) (at-work run s aw hb w (r .0, r .1) (ac .0), (r .2, r .3), ac .1, ac .2)
   accepts-by-script run s aw hb w (writes c v) ac r f ih qs = RunWith.goes-on (ih qs) (at-work run s aw hb w (r .0, r .1) (ac .0), (r .2, r .3))
   accepts-by-script run s aw hb w (commits p) ac r f ih qs =
-    let l : commitLowerBound (z .cells) (z .crews) s w < p = omega (arith, ac .1, cells-bound-below (z .cells) s w p (z .cells) (omega (arith, ac .1)) (ac .3), readers-bound-below (z .cells) s w p (z .crews) (omega (arith, ac .1)) (ac .4)) in
-    let g = script-gives p qs (commitLowerBound (z .cells) (z .crews) s w) (s .high w) l (ac .2) in
-    subst (λ k. RunWith scriptChooser z first own (reverseOnto (placesOf run) (p ∷ qs)) (by w (commits p) ∷ run) (viewAfter (z .top) (z .cells) s w (commits p)) k) (g .1)
+      let l : commitLowerBound (z .cells) (z .crews) s w < p = omega (arith, ac .1, cells-bound-below (z .cells) s w p (z .cells) (omega (arith, ac .1)) (ac .3), readers-bound-below (z .cells) s w p (z .crews) (omega (arith, ac .1)) (ac .4)) in
+      let g = script-gives p qs (commitLowerBound (z .cells) (z .crews) s w) (s .high w) l (ac .2) in
+      subst (λ k. RunWith scriptChooser z first own (reverseOnto (placesOf run) (p ∷ qs)) (by w (commits p) ∷ run) (viewAfter (z .top) (z .cells) s w (commits p)) k) (g .1)
       (RunWith.goes-on (ih (p ∷ qs)) (at-work run s aw hb w (r .0, r .1) (ac .0), omega (arith, l, ac .2), sym (g .0)))
   accepts-by-script run s aw hb w (abandons p) ac r f ih qs =
-    let g = script-gives p qs (s .low w) (s .high w) (ac .1) (ac .2) in
-    subst (λ k. RunWith scriptChooser z first own (reverseOnto (placesOf run) (p ∷ qs)) (by w (abandons p) ∷ run) (viewAfter (z .top) (z .cells) s w (abandons p)) k) (g .1)
+      let g = script-gives p qs (s .low w) (s .high w) (ac .1) (ac .2) in
+      subst (λ k. RunWith scriptChooser z first own (reverseOnto (placesOf run) (p ∷ qs)) (by w (abandons p) ∷ run) (viewAfter (z .top) (z .cells) s w (abandons p)) k) (g .1)
       (RunWith.goes-on (ih (p ∷ qs)) (at-work run s aw hb w (r .0, r .1) (ac .0), sym (g .0)))
 
   range-on : (w : ℕ) (d : Operation V V ℕ) (run : History V) → InRange (z .cells) (z .crews) (by w d ∷ run) → InRange (z .cells) (z .crews) run
@@ -201,10 +204,15 @@ module _ {V : Type 0} (z : Sizes) (first : ℕ → V) (own : ℕ → ℕ → V) 
 
   pub positions-script : (cs : Calls V) → z .entries + 2 ≤ z .top → WellMadeList (z .cells) (z .crews) (z .entries) cs → (row : List ℕ) → SerializationOrder (byJobs cs) row → AcceptedWith scriptChooser z first own (reverseOnto (positions (position row) cs) []) cs
   positions-script cs t wl row l =
-    let a = positions-accepted first own (z .top) (z .cells) (z .crews) (z .entries) cs t wl row l in
-    let k = subst (λ y. Alike (a .run) y) (a .same-calls) (calls-alike (a .run)) in
-    record { run = a .run; view = a .view; state = []; same-calls = a .same-calls;
-      run-with = subst (λ ps. RunWith scriptChooser z first own (reverseOnto ps []) (a .run) (a .view) []) (a .same-places) (view-run-by-script (a .view-run) (range-alike (z .cells) (z .crews) (alike-sym k) (wl .in-range)) (rw (openings-alike k) (wl .entries-suffice)) []) }
+      let a = positions-accepted first own (z .top) (z .cells) (z .crews) (z .entries) cs t wl row l in
+      let k = subst (λ y. Alike (a .run) y) (a .same-calls) (calls-alike (a .run)) in
+      record {
+        run = a .run;
+        view = a .view;
+        state = [];
+        same-calls = a .same-calls;
+        run-with = subst (λ ps. RunWith scriptChooser z first own (reverseOnto ps []) (a .run) (a .view) []) (a .same-places) (view-run-by-script (a .view-run) (range-alike (z .cells) (z .crews) (alike-sym k) (wl .in-range)) (rw (openings-alike k) (wl .entries-suffice)) []);
+      }
 
 pub scripts-permissive : {V : Type 0} (first : ℕ → V) (own : ℕ → ℕ → V) (z : Sizes) (cs : Calls V) → z .entries + 2 ≤ z .top → WellMadeList (z .cells) (z .crews) (z .entries) cs → ((row : List ℕ) × SerializationOrder (byJobs cs) row) ↔ ((numbers : List ℕ) × AcceptedWith scriptChooser z first own numbers cs)
 scripts-permissive first own z cs t wl = ((λ l. (reverseOnto (positions (position (l .0)) cs) [], positions-script z first own cs t wl (l .0) (l .1))), (λ a. chosen-has-order z first own scriptChooser script-keeps-law (a .0) cs (omega arith) (a .1)))

@@ -104,23 +104,26 @@ module _ {V : Type 0} (first : ℕ → V) where
 
   -- an act that changes no puts: only what its own job is told is left to show
   installs-nothing : (h : History V) (row : List ℕ) (a : Event V V ℕ) → Explained h row →
-    ((z c : ℕ) → installs (projection (a ∷ h) z) c ≡ installs (projection h z) c) → ((c : ℕ) → committedValue first (a ∷ h) c ≡ committedValue first h c) →
-    ((y : ℕ) (ea : List ℕ) → Extends row (y ∷ ea) → observes (leftBy (projection h) first ea) (projection (a ∷ h) y) ≡ observed (projection (a ∷ h) y)) → Explained (a ∷ h) row
+      ((z c : ℕ) → installs (projection (a ∷ h) z) c ≡ installs (projection h z) c) → ((c : ℕ) → committedValue first (a ∷ h) c ≡ committedValue first h c) →
+      ((y : ℕ) (ea : List ℕ) → Extends row (y ∷ ea) → observes (leftBy (projection h) first ea) (projection (a ∷ h) y) ≡ observed (projection (a ∷ h) y)) → Explained (a ∷ h) row
   installs-nothing h row a ih same stand tell = record {
     so-observed = λ y ea s. observes-same (leftBy (projection (a ∷ h)) first ea) (leftBy (projection h) first ea) (projection (a ∷ h) y) (λ c _. left-by-same (projection (a ∷ h)) (projection h) c ea (λ z eb _. same z c)) ∙ tell y ea s;
-    so-left = λ c. left-by-same (projection (a ∷ h)) (projection h) c row (λ z eb _. same z c) ∙ (ih .so-left c ∙ sym (stand c)) }
+    so-left = λ c. left-by-same (projection (a ∷ h)) (projection h) c row (λ z eb _. same z c) ∙ (ih .so-left c ∙ sym (stand c));
+  }
 
   -- a read: y stands before all who had committed the cell, so what is left before y is what stands
   read-step : (h : History V) (row : List ℕ) (x c : ℕ) (v : V) → WellFormed (by x (reads c v) ∷ h) → NoBreach (by x (reads c v) ∷ h) row → Explained h row →
-    v ≡ orElse (buffered (projection h x) c) (committedValue first h c) → (ea : List ℕ) → Extends row (x ∷ ea) → orElse (buffered (projection h x) c) (leftBy (projection h) first ea c) ≡ v
+      v ≡ orElse (buffered (projection h x) c) (committedValue first h c) → (ea : List ℕ) → Extends row (x ∷ ea) → orElse (buffered (projection h x) c) (leftBy (projection h) first ea c) ≡ v
   unfolding NoBreach
   read-step h row x c v pr resp ih true-told ea s = go (buffered (projection h x) c) refl true-told
     where
       nobody : buffered (projection h x) c ≡ None → (z : ℕ) (eb : List ℕ) → Extends row (z ∷ eb) → Extends eb (x ∷ ea) → (o : Option V) → installs (projection h z) c ≡ o → installs (projection h z) c ≡ None
       nobody q z eb t u None e = e
       nobody q z eb t u (Some w) e = absurd (resp z eb x ea t u (committed-read {c = c} {v = v} here (unbuffered-unwritten h x c q) (installed-committed h (pr .1) z c w e)))
+
       mine : installs (projection h x) c ≡ None
       mine = rw (active-uncommitted h (pr .1) x (pr .0))
+
       go : (o : Option V) → buffered (projection h x) c ≡ o → v ≡ orElse o (committedValue first h c) → orElse o (leftBy (projection h) first ea c) ≡ v
       go (Some w) q e = sym e
       go None q e = sym (e ∙ (sym (ih .so-left c) ∙ (left-by-skip (projection h) c s (λ z eb t u. nobody q z eb t u (installs (projection h z) c) refl) ∙ ap (λ o. orElse o (leftBy (projection h) first ea c)) mine)))
@@ -129,21 +132,26 @@ module _ {V : Type 0} (first : ℕ → V) where
   commit-step : (h : History V) (row : List ℕ) (x p : ℕ) → WellFormed (by x (commits p) ∷ h) → Once row → In x row → NoBreach (by x (commits p) ∷ h) row → Explained h row → Explained (by x (commits p) ∷ h) row
   unfolding NoBreach
   commit-step h row x p pr once (ex, sx) resp ih = record {
-      so-observed = λ y ea s. either (λ k. observes (leftBy new first ea) k ≡ observed k) (eqb x y) (keeps y ea s) (keeps y ea s);
-      so-left = λ c. ends c (buffered (projection h x) c) refl }
+    so-observed = λ y ea s. either (λ k. observes (leftBy new first ea) k ≡ observed k) (eqb x y) (keeps y ea s) (keeps y ea s);
+    so-left = λ c. ends c (buffered (projection h x) c) refl;
+  }
     where
       new : ℕ → List (Operation V V ℕ)
       new = projection (by x (commits p) ∷ h)
+
       unread : (y : ℕ) (ea : List ℕ) (z : ℕ) (eb : List ℕ) (c : ℕ) → Extends row (y ∷ ea) → Extends ea (z ∷ eb) → FirstHand (projection h y) c → x ≡ z → (o : Option V) → buffered (projection h z) c ≡ o → buffered (projection h z) c ≡ None
       unread y ea z eb c s t f e None q = q
       unread y ea z eb c s t f e (Some v) q = absurd (resp y ea z eb s t (read-committed (occurs-here h (commits p) x z e) (buffered-wrote h z c v q) (first-hand-read h y c f)))
+
       keeps : (y : ℕ) (ea : List ℕ) → Extends row (y ∷ ea) → observes (leftBy new first ea) (projection h y) ≡ observed (projection h y)
       keeps y ea s = observes-same (leftBy new first ea) (leftBy (projection h) first ea) (projection h y)
-        (λ c f. left-by-same new (projection h) c ea (λ z eb t. commit-installs h x p z c (λ e. unread y ea z eb c s t f e (buffered (projection h z) c) refl))) ∙ ih .so-observed y ea s
+          (λ c f. left-by-same new (projection h) c ea (λ z eb t. commit-installs h x p z c (λ e. unread y ea z eb c s t f e (buffered (projection h z) c) refl))) ∙ ih .so-observed y ea s
+
       nobody : (c : ℕ) (v : V) → buffered (projection h x) c ≡ Some v → (z : ℕ) (eb : List ℕ) → Extends row (z ∷ eb) → Extends eb (x ∷ ex) → (b : Bool) → eqb x z ≡ b → (o : Option V) → installs (projection h z) c ≡ o → installs (cond b (commits p ∷ projection h z) (projection h z)) c ≡ None
       nobody c v q z eb t u true e o k = absurd (once x (eb, rw (eqb-true x z e) t, (ex, u)))
       nobody c v q z eb t u false e None k = k
       nobody c v q z eb t u false e (Some w) k = absurd (resp z eb x ex t u (committed-committed (occurs-here h (commits p) x x refl) (buffered-wrote h x c v q) (installed-committed h (pr .1) z c w k)))
+
       ends : (c : ℕ) (o : Option V) → buffered (projection h x) c ≡ o → leftBy new first row c ≡ orElse (buffered (projection h x) c) (committedValue first h c)
       ends c None q = left-by-same new (projection h) c row (λ z eb t. commit-installs h x p z c (λ e. rw (← e) q)) ∙ (ih .so-left c ∙ ap (λ o. orElse o (committedValue first h c)) (sym q))
       ends c (Some v) q = left-by-skip new c sx (λ z eb t u. nobody c v q z eb t u (eqb x z) refl (installs (projection h z) c) refl) ∙ (rw (eq-eqb x x refl, q))
@@ -152,23 +160,23 @@ module _ {V : Type 0} (first : ℕ → V) where
   unfolding HasCommitted
   explain [] row o pr tr w r = record { so-observed = λ y ea s. refl; so-left = λ c. left-by-none c row }
   explain (by x opens ∷ h) row o pr tr w r =
-    let ih = explain h row o (pr .1) tr (has-committed-tail (by x opens) h row w) (no-breach-tail (by x opens) h row r) in
-    installs-nothing h row (by x opens) ih (λ z c. either (λ k. installs k c ≡ installs (projection h z) c) (eqb x z) refl refl) (λ c. refl)
+      let ih = explain h row o (pr .1) tr (has-committed-tail (by x opens) h row w) (no-breach-tail (by x opens) h row r) in
+      installs-nothing h row (by x opens) ih (λ z c. either (λ k. installs k c ≡ installs (projection h z) c) (eqb x z) refl refl) (λ c. refl)
       (λ y ea s. either (λ k. observes (leftBy (projection h) first ea) k ≡ observed k) (eqb x y) (ih .so-observed y ea s) (ih .so-observed y ea s))
   explain (by x (reads c v) ∷ h) row o pr tr w r =
-    let ih = explain h row o (pr .1) (tr .1) (has-committed-tail (by x (reads c v)) h row w) (no-breach-tail (by x (reads c v)) h row r) in
-    installs-nothing h row (by x (reads c v)) ih (λ z c. either (λ k. installs k c ≡ installs (projection h z) c) (eqb x z) refl refl) (λ c. refl)
+      let ih = explain h row o (pr .1) (tr .1) (has-committed-tail (by x (reads c v)) h row w) (no-breach-tail (by x (reads c v)) h row r) in
+      installs-nothing h row (by x (reads c v)) ih (λ z c. either (λ k. installs k c ≡ installs (projection h z) c) (eqb x z) refl refl) (λ c. refl)
       (λ y ea s. either-eq (λ k. observes (leftBy (projection h) first ea) k ≡ observed k) x y (λ e. ap₂ _∷_ (rw (← e) (read-step h row x c v pr r ih (tr .0) ea (rw e s))) (ih .so-observed y ea s)) (ih .so-observed y ea s))
   explain (by x (writes c v) ∷ h) row o pr tr w r =
-    let ih = explain h row o (pr .1) tr (has-committed-tail (by x (writes c v)) h row w) (no-breach-tail (by x (writes c v)) h row r) in
-    installs-nothing h row (by x (writes c v)) ih (λ z k. write-installs h x c z k v (eqb x z) refl (active-uncommitted h (pr .1) x (pr .0))) (λ c. refl)
+      let ih = explain h row o (pr .1) tr (has-committed-tail (by x (writes c v)) h row w) (no-breach-tail (by x (writes c v)) h row r) in
+      installs-nothing h row (by x (writes c v)) ih (λ z k. write-installs h x c z k v (eqb x z) refl (active-uncommitted h (pr .1) x (pr .0))) (λ c. refl)
       (λ y ea s. either (λ k. observes (leftBy (projection h) first ea) k ≡ observed k) (eqb x y) (ih .so-observed y ea s) (ih .so-observed y ea s))
   explain (by x (commits p) ∷ h) row o pr tr w r =
-    let ih = explain h row o (pr .1) tr (has-committed-tail (by x (commits p)) h row w) (no-breach-tail (by x (commits p)) h row r) in
-    commit-step h row x p pr o (w x (rw (eq-eqb x x refl))) r ih
+      let ih = explain h row o (pr .1) tr (has-committed-tail (by x (commits p)) h row w) (no-breach-tail (by x (commits p)) h row r) in
+      commit-step h row x p pr o (w x (rw (eq-eqb x x refl))) r ih
   explain (by x (abandons p) ∷ h) row o pr tr w r =
-    let ih = explain h row o (pr .1) tr (has-committed-tail (by x (abandons p)) h row w) (no-breach-tail (by x (abandons p)) h row r) in
-    installs-nothing h row (by x (abandons p)) ih (λ z c. either (λ k. installs k c ≡ installs (projection h z) c) (eqb x z) refl refl) (λ c. refl)
+      let ih = explain h row o (pr .1) tr (has-committed-tail (by x (abandons p)) h row w) (no-breach-tail (by x (abandons p)) h row r) in
+      installs-nothing h row (by x (abandons p)) ih (λ z c. either (λ k. installs k c ≡ installs (projection h z) c) (eqb x z) refl refl) (λ c. refl)
       (λ y ea s. either (λ k. observes (leftBy (projection h) first ea) k ≡ observed k) (eqb x y) (ih .so-observed y ea s) (ih .so-observed y ea s))
 
   no-breach : (h : History V) (row : List ℕ) → Respects h row → NoBreach h row

@@ -172,6 +172,7 @@ module _ {V : Type 0} where
       low : (x : ℕ) → isCommitted (projection h x) ≡ true → 1 ≤ x
       low zero q = absurd (both-ways (isCommitted (projection h 0)) (ap isCommitted (projection-zero h pr)) q)
       low (suc x) q = omega arith
+
       high : Dec (x ≤ openings h) → x ≤ openings h
       high (yes l) = l
       high (no n) = absurd (both-ways (isCommitted (projection h x)) (ap isCommitted (unopened-projection h pr x (omega arith))) q)

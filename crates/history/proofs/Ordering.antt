@@ -64,9 +64,11 @@ module _ (key : ℕ → ℕ) where
       last : (z ≡ x) ⊎ In z r → (z ≡ x) ⊎ In z (y ∷ r)
       last (inl e) = inl e
       last (inr m) = inr (in-later z y r m)
+
       behind : (In z (insert x r) → (z ≡ x) ⊎ In z r) → (z ≡ y) ⊎ In z (insert x r) → (z ≡ x) ⊎ In z (y ∷ r)
       behind ih (inl e) = inr (r, rw e here)
       behind ih (inr m) = last (ih m)
+
       go : (b : Bool) → In z (cond b (x ∷ y ∷ r) (y ∷ insert x r)) → (In z (insert x r) → (z ≡ x) ⊎ In z r) → (z ≡ x) ⊎ In z (y ∷ r)
       go true k ih = in-cases z x (y ∷ r) k
       go false k ih = behind ih (in-cases z y (insert x r) k)
@@ -78,9 +80,11 @@ module _ (key : ℕ → ℕ) where
       above : leb (key y) (key x) ≡ true → (z : ℕ) → (z ≡ y) ⊎ In z r → key z ≤ key x
       above e z (inl q) = rw q (leb-true (key y) (key x) e)
       above e z (inr m) = omega (arith, so .0 z m, leb-true (key y) (key x) e)
+
       below : leb (key y) (key x) ≡ false → (z : ℕ) → (z ≡ x) ⊎ In z r → key z ≤ key y
       below e z (inl q) = rw q (omega (arith, leb-false (key y) (key x) e))
       below e z (inr m) = so .0 z m
+
       go : (b : Bool) → leb (key y) (key x) ≡ b → Sorted (insert x r) → Sorted (cond b (x ∷ y ∷ r) (y ∷ insert x r))
       go true e ih = ((λ z i. above e z (in-cases z y r i)), so)
       go false e ih = ((λ z i. below e z (insert-cases x z r i)), ih)
@@ -92,6 +96,7 @@ module _ (key : ℕ → ℕ) where
       other : (y ≡ x) ⊎ In y r → ⊥
       other (inl e) = n (r, rw e here)
       other (inr m) = d .0 m
+
       go : (b : Bool) → Distinct (insert x r) → Distinct (cond b (x ∷ y ∷ r) (y ∷ insert x r))
       go true ih = (n, d)
       go false ih = ((λ i. other (insert-cases x y r i)), ih)
@@ -144,9 +149,11 @@ module _ {V : Type 0} (h : History V) (low high : ℕ → ℕ) (pl : Placed h lo
           first : (y ≡ x) ⊎ In y ea → StandsBefore row x y
           first (inl e) = absurd (ne (sym e))
           first (inr i) = absurd (omega (arith, asc y x (ea, s, i)))
+
           second : (x ≡ y) ⊎ In x eb → StandsBefore row x y
           second (inl e) = absurd (ne e)
           second (inr i) = (eb, t, i)
+
           go : Extends (x ∷ ea) (y ∷ eb) ⊎ Extends (y ∷ eb) (x ∷ ea) → StandsBefore row x y
           go (inl u) = first (in-cases y x ea (eb, u))
           go (inr u) = second (in-cases x y eb (ea, u))
@@ -157,6 +164,7 @@ module _ {V : Type 0} (h : History V) (low high : ℕ → ℕ) (pl : Placed h lo
     where
       k : ℕ → ℕ
       k = sortKey h low
+
       n : ℕ
       n = openings h
 

@@ -45,6 +45,7 @@ without-in k x (y ∷ r) i = go (eqb y k) i (without-in k x r)
     inner : (In x (without k r) → In x r) → (x ≡ y) ⊎ In x (without k r) → In x (y ∷ r)
     inner ih (inl e) = in-head x y r e
     inner ih (inr j) = in-later x y r (ih j)
+
     go : (b : Bool) → In x (cond b r (y ∷ without k r)) → (In x (without k r) → In x r) → In x (y ∷ r)
     go true j ih = in-later x y r j
     go false j ih = inner ih (in-cases x y (without k r) j)
@@ -66,6 +67,7 @@ without-not k (y ∷ r) d i = go (eqb y k) refl i (without-not k r (d .1))
     inner : (In k (without k r) → ⊥) → eqb y k ≡ false → (k ≡ y) ⊎ In k (without k r) → ⊥
     inner ih e (inl q) = eqb-false y k e (sym q)
     inner ih e (inr j) = ih j
+
     go : (b : Bool) → eqb y k ≡ b → In k (cond b r (y ∷ without k r)) → (In k (without k r) → ⊥) → ⊥
     go true e j ih = d .0 (rw (eqb-true y k e) j)
     go false e j ih = inner ih e (in-cases k y (without k r) j)

@@ -32,11 +32,11 @@ module _ {V : Type 0} (m : ℕ → V) where
   in-step-next y x h d false e pr k = k
   in-step-next y x h opens true e pr k = rw (unopened-projection h (pr .1) x (omega (arith, eqb-true y x e))) (record { of-cells = λ c. refl; of-buffer = λ c. refl; of-observed = refl })
   in-step-next y x h (reads c v) true e pr k = let n = active-uncommitted h (pr .1) x (rw (eqb-true y x e) at (pr .0)) in
-    record { of-cells = k .of-cells; of-buffer = k .of-buffer; of-observed = ap₂ _∷_ (ap₂ orElse (k .of-buffer c) (unmoved (projection h x) n k c)) (k .of-observed) }
+      record { of-cells = k .of-cells; of-buffer = k .of-buffer; of-observed = ap₂ _∷_ (ap₂ orElse (k .of-buffer c) (unmoved (projection h x) n k c)) (k .of-observed) }
   in-step-next y x h (writes c v) true e pr k = let n = active-uncommitted h (pr .1) x (rw (eqb-true y x e) at (pr .0)) in
-    record { of-cells = λ d. unmoved (projection h x) n k d ∙ rw n; of-buffer = λ d. ap (cond (eqb c d) (Some v)) (k .of-buffer d); of-observed = k .of-observed }
+      record { of-cells = λ d. unmoved (projection h x) n k d ∙ rw n; of-buffer = λ d. ap (cond (eqb c d) (Some v)) (k .of-buffer d); of-observed = k .of-observed }
   in-step-next y x h (commits p) true e pr k = let n = active-uncommitted h (pr .1) x (rw (eqb-true y x e) at (pr .0)) in
-    record { of-cells = λ c. ap₂ orElse (k .of-buffer c) (unmoved (projection h x) n k c); of-buffer = k .of-buffer; of-observed = k .of-observed }
+      record { of-cells = λ c. ap₂ orElse (k .of-buffer c) (unmoved (projection h x) n k c); of-buffer = k .of-buffer; of-observed = k .of-observed }
   in-step-next y x h (abandons p) true e pr k = record { of-cells = k .of-cells; of-buffer = k .of-buffer; of-observed = k .of-observed }
 
   in-step : (h : History V) → WellFormed h → (x : ℕ) → InStep (projection h x)
@@ -51,7 +51,8 @@ module _ {V : Type 0} (first : ℕ → V) (h : History V) (pr : WellFormed h) wh
   pub serially-explained : (row : List ℕ) → Explains first h row → SeriallyExplained first h row
   serially-explained row ex = record {
     same-observed = λ y ea s. in-step (executeSerially (projection h) first ea) h pr y .of-observed ∙ (ap (λ f. observes f (projection h y)) (executed-left ea) ∙ ex .same-observed y ea s);
-    same-left = λ c. ap (λ f. f c) (executed-left row) ∙ ex .same-left c }
+    same-left = λ c. ap (λ f. f c) (executed-left row) ∙ ex .same-left c;
+  }
 
 pub respectful-orders-explain : {V : Type 0} (first : ℕ → V) (h : History V) (row : List ℕ) → WellFormed h → ReadsCurrent first h → Respects h row → SeriallyExplained first h row
 respectful-orders-explain first h row wf rc re = serially-explained first h wf row (respectful-explains first h row wf rc re)

@@ -199,6 +199,7 @@ module _ {V : Type 0} where
         fresh-commit (writes k v) e m s = absurd m
         fresh-commit (commits q) e m s = let f : q ≡ p = cc in omega (arith, s c (rw (m .0) (m .1)) .2)
         fresh-commit (abandons q) e m s = absurd m
+
         go : (endPlace (projection h z) ≡ Some p) ⊎ ((x ≡ z) × (endsAt d ≡ Some p)) → CommitsNow (by x d) h z c ⊎ CommittedCell h z c → p ≤ b′ .written c
         go (inl e) (inr m) = omega (arith, tr .below-written z c p m e, mv .written-up c)
         go (inl e) (inl m) = none-some p (sym (acting-unplaced h x d pr) ∙ rw (commits-by h x z c d m) e)
@@ -220,27 +221,28 @@ module _ {V : Type 0} where
     -- a place that y had before this act, against the one who acts, who ends now or stays open
     had-none : (y p : ℕ) → endPlace (projection h y) ≡ Some p → endPlace (d ∷ projection h x) ≡ None → p ≤ b′ .low x → ApartNow y x
     had-none y p e n k = apart-some-none _ _ (b′ .low y) (b′ .high y) (b′ .low x) (b′ .high x) p
-      (closes-on _ _ (b .low y) (b .high y) (b′ .low y) (b′ .high y) (mv .closes-in y) p e) (end-place-own h x d ∙ n) k
+        (closes-on _ _ (b .low y) (b .high y) (b′ .low y) (b′ .high y) (mv .closes-in y) p e) (end-place-own h x d ∙ n) k
 
     had-some : (y p q : ℕ) → endPlace (projection h y) ≡ Some p → endPlace (d ∷ projection h x) ≡ Some q → p < q → ApartNow y x
     had-some y p q e n k = apart-some-some _ _ (b′ .low y) (b′ .high y) (b′ .low x) (b′ .high x) p q
-      (closes-on _ _ (b .low y) (b .high y) (b′ .low y) (b′ .high y) (mv .closes-in y) p e) (end-place-own h x d ∙ n) k
+        (closes-on _ _ (b .low y) (b .high y) (b′ .low y) (b′ .high y) (mv .closes-in y) p e) (end-place-own h x d ∙ n) k
 
   now-apart : (h : History V) (b : Bounds) (x : ℕ) (d : Operation V V ℕ) (b′ : Bounds) (pr : WellFormed (by x d ∷ h)) (tr : Tracked h b) (mv : Moves h b x d b′) →
-    (y z : ℕ) → (y ≡ z → ⊥) → PrecedesNow (by x d) h y z → ApartNow h b x d b′ pr tr mv y z
+      (y z : ℕ) → (y ≡ z → ⊥) → PrecedesNow (by x d) h y z → ApartNow h b x d b′ pr tr mv y z
   now-apart h b x opens b′ pr tr mv y z ne (e, en) =
-    let k = ended-place h y en in
-    subst (λ w. ApartNow h b x opens b′ pr tr mv y w) e
+      let k = ended-place h y en in
+      subst (λ w. ApartNow h b x opens b′ pr tr mv y w) e
       (had-none h b x opens b′ pr tr mv y (k .0) (k .1) (acting-unplaced h x opens pr) (omega (arith, tr .below-highest y (k .0) (k .1), mv .sees-to)))
   now-apart h b x (reads c v) b′ pr tr mv y z ne (e, n, m) =
-    let k = committed-place h y c m in
-    subst (λ w. ApartNow h b x (reads c v) b′ pr tr mv y w) e
+      let k = committed-place h y c m in
+      subst (λ w. ApartNow h b x (reads c v) b′ pr tr mv y w) e
       (had-none h b x (reads c v) b′ pr tr mv y (k .0) (k .1) (acting-unplaced h x (reads c v) pr) (omega (arith, tr .below-written y c (k .0) m (k .1), mv .sees-to (rw e n))))
   now-apart h b x (writes c v) b′ pr tr mv y z ne m = absurd m
   now-apart h b x (commits p) b′ pr tr mv y z ne (e, (c, w, r)) = subst (λ w. ApartNow h b x (commits p) b′ pr tr mv y w) e (go r (endPlace (projection h y)) refl)
     where
       w′ : Wrote h x c
       w′ = rw e w
+
       go : ReadGlobally h y c ⊎ CommittedCell h y c → (o : Option ℕ) → endPlace (projection h y) ≡ o → ApartNow h b x (commits p) b′ pr tr mv y x
       go (inl m) (Some q) f = had-some h b x (commits p) b′ pr tr mv y q p f refl (omega (arith, tr .below-read y c q m f, mv .sees-to c w′ .1))
       go (inl m) None f = apart-none-some _ _ (b′ .low y) (b′ .high y) (b′ .low x) (b′ .high x) p (end-place-other h x y (commits p) (λ q. ne (sym q ∙ e)) ∙ f) (end-place-own h x (commits p)) (mv .sees-to c w′ .3 y (λ q. ne (q ∙ e)) m f)
@@ -250,10 +252,11 @@ module _ {V : Type 0} where
 
   pub tracked-step : (h : History V) (b : Bounds) (x : ℕ) (d : Operation V V ℕ) (b′ : Bounds) → WellFormed (by x d ∷ h) → Tracked h b → Moves h b x d b′ → Tracked (by x d ∷ h) b′
   tracked-step h b x d b′ pr tr mv = record {
-      placed = record { apart = λ y z ne k. go y z ne (precedes-cases y z (by x d) h k); room = mv .room };
-      below-highest = highest-now h b x d b′ pr tr mv;
-      below-written = written-now h b x d b′ pr tr mv;
-      below-read = read-now h b x d b′ pr tr mv }
+    placed = record { apart = λ y z ne k. go y z ne (precedes-cases y z (by x d) h k); room = mv .room };
+    below-highest = highest-now h b x d b′ pr tr mv;
+    below-written = written-now h b x d b′ pr tr mv;
+    below-read = read-now h b x d b′ pr tr mv;
+  }
     where
       go : (y z : ℕ) → (y ≡ z → ⊥) → PrecedesNow (by x d) h y z ⊎ Precedes h y z → ApartNow h b x d b′ pr tr mv y z
       go y z ne (inl k) = now-apart h b x d b′ pr tr mv y z ne k

@@ -91,32 +91,50 @@ module _ {V : Type 0} (top n : ℕ) (first : ℕ → V) (run : History V) (s : R
 
   own-commit : (w p c : ℕ) → Accepts top n s w (commits p) → Wrote (byJobs run) (openJob run w) c → (s .written c < p) × (s .read c < p) × (p ≤ cond (s .hasWritten w c) p (s .written c)) × ((u : ℕ) → (u ≡ w → ⊥) → 1 ≤ openJob run u → ReadGlobally (byJobs run) (openJob run u) c → updated (λ u. cond (conflicts s w u n) (min (s .high u) p) (s .high u)) w 0 u ≤ p)
   own-commit w p c ac wr =
-    let f = flag-when-written w c (has w (ac .0)) wr in
-    (ac .3 c f .0, ac .3 c f .1, rw f (omega arith), λ u ne a r. rw (ne-eqb w u (λ e. ne (sym e)), conflicts-from s w u n c (bk .range w c f .0) (bk .range w c f .1) (bk .read-is u c a r) f) (omega arith))
+      let f = flag-when-written w c (has w (ac .0)) wr in
+      (ac .3 c f .0, ac .3 c f .1, rw f (omega arith), λ u ne a r. rw (ne-eqb w u (λ e. ne (sym e)), conflicts-from s w u n c (bk .range w c f .0) (bk .range w c f .1) (bk .read-is u c a r) f) (omega arith))
 
   crew-moves : (w : ℕ) (d : Operation V V ℕ) → Accepts top n s w d → CrewMoves top run (boundsOf s) w d (boundsOf (viewAfter top n s w d))
   crew-moves w opens ac = record {
     own = rw (eq-eqb w w refl) (omega arith, omega arith, ac .1);
     others = λ u ne a. rw (ne-eqb w u (λ e. ne (sym e))) (omega arith, omega arith, bk .room u a);
-    highest-up = omega arith; written-up = λ c. omega arith; read-up = λ c. omega arith; ends = λ p e. none-some p e }
+    highest-up = omega arith;
+    written-up = λ c. omega arith;
+    read-up = λ c. omega arith;
+    ends = λ p e. none-some p e;
+  }
   crew-moves w (reads c v) ac = record {
     own = rw (eq-eqb w w refl) (own-read w c v ac (s .hasWritten w c) refl);
     others = λ u ne a. rw (ne-eqb w u (λ e. ne (sym e))) (omega arith, omega arith, bk .room u a);
-    highest-up = omega arith; written-up = λ c. omega arith; read-up = λ c. omega arith; ends = λ p e. none-some p e }
+    highest-up = omega arith;
+    written-up = λ c. omega arith;
+    read-up = λ c. omega arith;
+    ends = λ p e. none-some p e;
+  }
   crew-moves w (writes c v) ac = record {
     own = (omega arith, omega arith, bk .room w (has w (ac .0)));
     others = λ u ne a. (omega arith, omega arith, bk .room u a);
-    highest-up = omega arith; written-up = λ c. omega arith; read-up = λ c. omega arith; ends = λ p e. none-some p e }
+    highest-up = omega arith;
+    written-up = λ c. omega arith;
+    read-up = λ c. omega arith;
+    ends = λ p e. none-some p e;
+  }
   crew-moves w (commits p) ac = record {
     own = (ac .1, ac .2, λ c wr. own-commit w p c ac wr);
     others = λ u ne a. rw (ne-eqb w u (λ e. ne (sym e))) (lowered w p u ac ne a (conflicts s w u n) refl);
-    highest-up = omega arith; written-up = λ c. written-later w p c ac (s .hasWritten w c) refl; read-up = λ c. up-if (s .hasRead w c) (s .read c) (max (s .read c) p) (omega arith);
-    ends = λ q e. raised w p q (has w (ac .0)) (cc) }
+    highest-up = omega arith;
+    written-up = λ c. written-later w p c ac (s .hasWritten w c) refl;
+    read-up = λ c. up-if (s .hasRead w c) (s .read c) (max (s .read c) p) (omega arith);
+    ends = λ q e. raised w p q (has w (ac .0)) (cc);
+  }
   crew-moves w (abandons p) ac = record {
     own = (ac .1, ac .2);
     others = λ u ne a. rw (ne-eqb w u (λ e. ne (sym e))) (omega arith, omega arith, bk .room u a);
-    highest-up = omega arith; written-up = λ c. omega arith; read-up = λ c. up-if (s .hasRead w c) (s .read c) (max (s .read c) p) (omega arith);
-    ends = λ q e. raised w p q (has w (ac .0)) (cc) }
+    highest-up = omega arith;
+    written-up = λ c. omega arith;
+    read-up = λ c. up-if (s .hasRead w c) (s .read c) (max (s .read c) p) (omega arith);
+    ends = λ q e. raised w p q (has w (ac .0)) (cc);
+  }
 
   pub well-made-step : (w : ℕ) (d : Operation V V ℕ) → Accepts top n s w d → WellMade run → WellMade (by w d ∷ run)
   well-made-step w opens ac wm = (rw (← bk .job-is w) (ac .0), wm)
@@ -157,24 +175,29 @@ module _ {V : Type 0} (top n : ℕ) (first : ℕ → V) (run : History V) (s : R
 
   facts-open : (w : ℕ) → WellMade run → Accepts top n s w opens → ViewFacts n first (by w opens ∷ run) (viewAfter top n s w opens)
   facts-open w wm ac = record {
-      job-is = λ u. ap₂ (cond (eqb w u)) (ap suc (bk .opened-is)) (bk .job-is u);
-      opened-is = ap suc (bk .opened-is);
-      value-is = bk .value-is;
-      own-is = λ u c a. owns u c (eqb w u) refl a;
-      read-is = λ u c a r. seen u c (eqb w u) refl a r;
-      closed-is = λ u c q. shut u c (eqb w u) q;
-      range = bk .range;
-      room = λ u a. roomy u (eqb w u) a }
+    job-is = λ u. ap₂ (cond (eqb w u)) (ap suc (bk .opened-is)) (bk .job-is u);
+    opened-is = ap suc (bk .opened-is);
+    value-is = bk .value-is;
+    own-is = λ u c a. owns u c (eqb w u) refl a;
+    read-is = λ u c a r. seen u c (eqb w u) refl a r;
+    closed-is = λ u c q. shut u c (eqb w u) q;
+    range = bk .range;
+    room = λ u a. roomy u (eqb w u) a;
+  }
     where
       k : ℕ
       k = suc (openings run)
+
       h : History V
       h = byJobs run
+
       none-yet : projection h k ≡ []
       none-yet = unopened-projection h (well-formed run wm) k (omega (arith, openings-by-job run))
+
       owns : (u c : ℕ) (b : Bool) → eqb w u ≡ b → 1 ≤ cond b k (openJob run u) → buffered (projection (by k opens ∷ h) (cond b k (openJob run u))) c ≡ cond (s .hasWritten u c) (Some (s .own u c)) None
       owns u c true e a = rw (eq-eqb k k refl, none-yet, bk .closed-is u c (rw (← eqb-true w u e, ← bk .job-is w) (ac .0)))
       owns u c false e a = rw (ne-eqb k (openJob run u) (λ q. omega (arith, open-job-numbered run u))) (bk .own-is u c a)
+
       seen : (u c : ℕ) (b : Bool) → eqb w u ≡ b → 1 ≤ cond b k (openJob run u) → ReadGlobally (by k opens ∷ h) (cond b k (openJob run u)) c → s .hasRead u c ≡ true
       seen u c true e a r = go (read-cases k c (by k opens) h r)
         where
@@ -186,23 +209,30 @@ module _ {V : Type 0} (top n : ℕ) (first : ℕ → V) (run : History V) (s : R
           go : ⊥ ⊎ ReadGlobally h (openJob run u) c → s .hasRead u c ≡ true
           go (inl m) = absurd m
           go (inr m) = bk .read-is u c a m
+
       shut : (u c : ℕ) (b : Bool) → cond b k (openJob run u) ≡ 0 → s .hasWritten u c ≡ false
       shut u c true q = absurd (omega arith)
       shut u c false q = bk .closed-is u c q
+
       roomy : (u : ℕ) (b : Bool) → 1 ≤ cond b k (openJob run u) → cond b (s .highest) (s .low u) + 2 ≤ cond b top (s .high u)
       roomy u true a = ac .1
       roomy u false a = bk .room u a
 
   facts-read : (w c : ℕ) (v : V) → Accepts top n s w (reads c v) → ViewFacts n first (by w (reads c v) ∷ run) (viewAfter top n s w (reads c v))
   facts-read w c v ac = record {
-      job-is = bk .job-is; opened-is = bk .opened-is; value-is = bk .value-is;
-      own-is = λ u k a. buffered-either k (reads c v ∷ projection h (openJob run u)) (projection h (openJob run u)) (eqb (openJob run w) (openJob run u)) refl ∙ bk .own-is u k a;
-      read-is = λ u k a r. seen u k a (read-cases (openJob run u) k (by (openJob run w) (reads c v)) h r);
-      closed-is = bk .closed-is; range = bk .range;
-      room = λ u a. room-after w u (viewAfter top n s w (reads c v) .low) (s .high) (λ _. crew-moves w (reads c v) ac .own .2) (λ u ne a. crew-moves w (reads c v) ac .others u ne a .2) a }
+    job-is = bk .job-is;
+    opened-is = bk .opened-is;
+    value-is = bk .value-is;
+    own-is = λ u k a. buffered-either k (reads c v ∷ projection h (openJob run u)) (projection h (openJob run u)) (eqb (openJob run w) (openJob run u)) refl ∙ bk .own-is u k a;
+    read-is = λ u k a r. seen u k a (read-cases (openJob run u) k (by (openJob run w) (reads c v)) h r);
+    closed-is = bk .closed-is;
+    range = bk .range;
+    room = λ u a. room-after w u (viewAfter top n s w (reads c v) .low) (s .high) (λ _. crew-moves w (reads c v) ac .own .2) (λ u ne a. crew-moves w (reads c v) ac .others u ne a .2) a;
+  }
     where
       h : History V
       h = byJobs run
+
       inner : (k : ℕ) (d : Bool) → eqb c k ≡ d → s .hasRead w k ≡ true → cond d (cond (s .hasWritten w c) (s .hasRead w c) true) (s .hasRead w k) ≡ true
       inner k true f q = go (s .hasWritten w c) (rw (eqb-true c k f) q)
         where
@@ -210,12 +240,15 @@ module _ {V : Type 0} (top n : ℕ) (first : ℕ → V) (run : History V) (s : R
           go true q = q
           go false q = refl
       inner k false f q = q
+
       flag : (u k : ℕ) (b : Bool) → eqb w u ≡ b → s .hasRead u k ≡ true → cond b (updated (s .hasRead w) c (cond (s .hasWritten w c) (s .hasRead w c) true)) (s .hasRead u) k ≡ true
       flag u k true e q = inner k (eqb c k) refl (rw (eqb-true w u e) q)
       flag u k false e q = q
+
       mine : (b : Bool) → s .hasWritten w c ≡ b → (Wrote h (openJob run w) c → ⊥) → cond b (s .hasRead w c) true ≡ true
       mine true e nw = absurd (nw (written-when-flag w c (has w (ac .0)) e))
       mine false e nw = refl
+
       seen : (u k : ℕ) → 1 ≤ openJob run u → ((openJob run w ≡ openJob run u) × (c ≡ k) × (Wrote h (openJob run u) k → ⊥)) ⊎ ReadGlobally h (openJob run u) k → viewAfter top n s w (reads c v) .hasRead u k ≡ true
       seen u k a (inl (e, f, nw)) = rw (eq-eqb w u (one-crew run w u (has w (ac .0)) e), eq-eqb c k f) (mine (s .hasWritten w c) refl (rw (e, f) nw))
       seen u k a (inr m) = flag u k (eqb w u) refl (bk .read-is u k a m)
@@ -226,27 +259,35 @@ module _ {V : Type 0} (top n : ℕ) (first : ℕ → V) (run : History V) (s : R
 
   facts-write : (w c : ℕ) (v : V) → Accepts top n s w (writes c v) → ViewFacts n first (by w (writes c v) ∷ run) (viewAfter top n s w (writes c v))
   facts-write w c v ac = record {
-      job-is = bk .job-is; opened-is = bk .opened-is; value-is = bk .value-is;
-      own-is = λ u k a. owns u k a (eqb w u) refl;
-      read-is = λ u k a r. read-on-still u k 0 opens a (read-cases (openJob run u) k (by (openJob run w) (writes c v)) h r);
-      closed-is = λ u k q. shut u k q (eqb w u) refl;
-      range = λ u k q. ranged u k (eqb w u) q;
-      room = bk .room }
+    job-is = bk .job-is;
+    opened-is = bk .opened-is;
+    value-is = bk .value-is;
+    own-is = λ u k a. owns u k a (eqb w u) refl;
+    read-is = λ u k a r. read-on-still u k 0 opens a (read-cases (openJob run u) k (by (openJob run w) (writes c v)) h r);
+    closed-is = λ u k q. shut u k q (eqb w u) refl;
+    range = λ u k q. ranged u k (eqb w u) q;
+    room = bk .room;
+  }
     where
       h : History V
       h = byJobs run
+
       mine : (k : ℕ) (b : Bool) → cond b (Some v) (buffered (projection h (openJob run w)) k) ≡ cond (cond b true (s .hasWritten w k)) (Some (cond b v (s .own w k))) None
       mine k true = refl
       mine k false = bk .own-is w k (has w (ac .0))
+
       owns : (u k : ℕ) → 1 ≤ openJob run u → (b : Bool) → eqb w u ≡ b → buffered (projection (by (openJob run w) (writes c v) ∷ h) (openJob run u)) k ≡ cond (cond b (updated (s .hasWritten w) c true) (s .hasWritten u) k) (Some (cond b (updated (s .own w) c v) (s .own u) k)) None
       owns u k a true e = rw (← eqb-true w u e, eq-eqb (openJob run w) (openJob run w) refl) (mine k (eqb c k))
       owns u k a false e = rw (ne-eqb (openJob run w) (openJob run u) (λ q. eqb-false w u e (one-crew run w u (has w (ac .0)) q))) (bk .own-is u k a)
+
       shut : (u k : ℕ) → openJob run u ≡ 0 → (b : Bool) → eqb w u ≡ b → cond b (updated (s .hasWritten w) c true) (s .hasWritten u) k ≡ false
       shut u k q true e = absurd (omega (arith, has w (ac .0), ap (openJob run) (eqb-true w u e)))
       shut u k q false e = bk .closed-is u k q
+
       inner : (k : ℕ) (b : Bool) → eqb c k ≡ b → cond b true (s .hasWritten w k) ≡ true → (1 ≤ k) × (k ≤ n)
       inner k true e q = let f = eqb-true c k e in (omega (arith, ac .1), omega (arith, ac .2))
       inner k false e q = bk .range w k q
+
       ranged : (u k : ℕ) (b : Bool) → cond b (updated (s .hasWritten w) c true) (s .hasWritten u) k ≡ true → (1 ≤ k) × (k ≤ n)
       ranged u k true q = inner k (eqb c k) refl q
       ranged u k false q = bk .range u k q
@@ -282,23 +323,27 @@ module _ {V : Type 0} (top n : ℕ) (first : ℕ → V) (run : History V) (s : R
 
   facts-commit : (w p : ℕ) → Accepts top n s w (commits p) → ViewFacts n first (by w (commits p) ∷ run) (viewAfter top n s w (commits p))
   facts-commit w p ac = record {
-      job-is = ended-job w p (ac .0); opened-is = bk .opened-is;
-      value-is = λ c. own-or-value w c (has w (ac .0));
-      own-is = λ u k a. ended-own w p (ac .0) (commits p) (λ t k. refl) u k (eqb w u) a;
-      read-is = λ u k a r. ended-read w p (ac .0) (by (openJob run w) (commits p)) (λ x k r. no-case (read-cases x k (by (openJob run w) (commits p)) (byJobs run) r)) u k (eqb w u) a r;
-      closed-is = λ u k q. ended-shut w p (ac .0) u k (eqb w u) q;
-      range = λ u k q. ended-range w p (ac .0) u k (eqb w u) q;
-      room = λ u a. ended-room w p (ac .0) (λ u. cond (conflicts s w u n) (min (s .high u) p) (s .high u)) (λ u ne a. lowered w p u ac ne a (conflicts s w u n) refl .2) u (eqb w u) refl a }
+    job-is = ended-job w p (ac .0);
+    opened-is = bk .opened-is;
+    value-is = λ c. own-or-value w c (has w (ac .0));
+    own-is = λ u k a. ended-own w p (ac .0) (commits p) (λ t k. refl) u k (eqb w u) a;
+    read-is = λ u k a r. ended-read w p (ac .0) (by (openJob run w) (commits p)) (λ x k r. no-case (read-cases x k (by (openJob run w) (commits p)) (byJobs run) r)) u k (eqb w u) a r;
+    closed-is = λ u k q. ended-shut w p (ac .0) u k (eqb w u) q;
+    range = λ u k q. ended-range w p (ac .0) u k (eqb w u) q;
+    room = λ u a. ended-room w p (ac .0) (λ u. cond (conflicts s w u n) (min (s .high u) p) (s .high u)) (λ u ne a. lowered w p u ac ne a (conflicts s w u n) refl .2) u (eqb w u) refl a;
+  }
 
   facts-abandon : (w p : ℕ) → Accepts top n s w (abandons p) → ViewFacts n first (by w (abandons p) ∷ run) (viewAfter top n s w (abandons p))
   facts-abandon w p ac = record {
-      job-is = ended-job w p (ac .0); opened-is = bk .opened-is;
-      value-is = bk .value-is;
-      own-is = λ u k a. ended-own w p (ac .0) (abandons p) (λ t k. refl) u k (eqb w u) a;
-      read-is = λ u k a r. ended-read w p (ac .0) (by (openJob run w) (abandons p)) (λ x k r. no-case (read-cases x k (by (openJob run w) (abandons p)) (byJobs run) r)) u k (eqb w u) a r;
-      closed-is = λ u k q. ended-shut w p (ac .0) u k (eqb w u) q;
-      range = λ u k q. ended-range w p (ac .0) u k (eqb w u) q;
-      room = λ u a. ended-room w p (ac .0) (s .high) (λ u ne a. bk .room u a) u (eqb w u) refl a }
+    job-is = ended-job w p (ac .0);
+    opened-is = bk .opened-is;
+    value-is = bk .value-is;
+    own-is = λ u k a. ended-own w p (ac .0) (abandons p) (λ t k. refl) u k (eqb w u) a;
+    read-is = λ u k a r. ended-read w p (ac .0) (by (openJob run w) (abandons p)) (λ x k r. no-case (read-cases x k (by (openJob run w) (abandons p)) (byJobs run) r)) u k (eqb w u) a r;
+    closed-is = λ u k q. ended-shut w p (ac .0) u k (eqb w u) q;
+    range = λ u k q. ended-range w p (ac .0) u k (eqb w u) q;
+    room = λ u a. ended-room w p (ac .0) (s .high) (λ u ne a. bk .room u a) u (eqb w u) refl a;
+  }
 
   pub view-facts-step : (w : ℕ) (d : Operation V V ℕ) → WellMade run → Accepts top n s w d → ViewFacts n first (by w d ∷ run) (viewAfter top n s w d)
   view-facts-step w opens wm ac = facts-open w wm ac
@@ -316,11 +361,14 @@ pub record RunFacts {V : Type 0} (top n : ℕ) (first : ℕ → V) (run : Histor
 pub run-facts : {V : Type 0} (top n : ℕ) (first : ℕ → V) (own : ℕ → ℕ → V) {run : History V} {s : RegisterView V} → ViewRun top n first own run s → RunFacts top n first run s
 run-facts top n first own starts = record {
   view-facts = record { job-is = λ w. refl; opened-is = refl; value-is = λ c. refl; own-is = λ w c a. absurd (omega arith); read-is = λ w c a r. absurd (omega arith); closed-is = λ w c q. refl; range = λ w c q. absurd (both-ways false refl q); room = λ w a. absurd (omega arith) };
-  well-made = tt; reads-current = tt }
+  well-made = tt;
+  reads-current = tt;
+}
 run-facts top n first own (goes-on {run = run} {s = s} {w = w} {o = d} g ac) = let k = run-facts top n first own g in record {
   view-facts = view-facts-step top n first run s (k .view-facts) w d (k .well-made) ac;
   well-made = well-made-step top n first run s (k .view-facts) w d ac (k .well-made);
-  reads-current = reads-current-step top n first run s (k .view-facts) w d ac (k .reads-current) }
+  reads-current = reads-current-step top n first run s (k .view-facts) w d ac (k .reads-current);
+}
 
 pub crew-run : {V : Type 0} (top n : ℕ) (first : ℕ → V) (own : ℕ → ℕ → V) {run : History V} {s : RegisterView V} → ViewRun top n first own run s → CrewRun top run (boundsOf s)
 crew-run top n first own starts = CrewRun.starts (λ w. 0) (λ w. 0)

@@ -109,7 +109,7 @@ OwnBounds top run b w (reads c v) b′ = (b .low w ≤ b′ .low w) × (b′ .hi
 OwnBounds top run b w (writes c v) b′ = (b .low w ≤ b′ .low w) × (b′ .high w ≤ b .high w) × (b′ .low w + 2 ≤ b′ .high w)
 OwnBounds top run b w (commits p) b′ = (b .low w < p) × (p < b .high w)
     × ((c : ℕ) → Wrote (byJobs run) (openJob run w) c → (b .written c < p) × (b .read c < p) × (p ≤ b′ .written c)
-        × ((u : ℕ) → (u ≡ w → ⊥) → 1 ≤ openJob run u → ReadGlobally (byJobs run) (openJob run u) c → b′ .high u ≤ p))
+    × ((u : ℕ) → (u ≡ w → ⊥) → 1 ≤ openJob run u → ReadGlobally (byJobs run) (openJob run u) c → b′ .high u ≤ p))
 OwnBounds top run b w (abandons p) b′ = (b .low w < p) × (p < b .high w)
 
 -- an accepted call of crew w moves the bounds

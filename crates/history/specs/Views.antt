@@ -27,10 +27,17 @@ pub record RegisterView (V : Type 0) : Type 0 where
 
 abbrev pub freshView : {V : Type 0} → (ℕ → V) → (ℕ → ℕ → V) → RegisterView V
 freshView first own = record {
-  value = first; written = λ c. 0; read = λ c. 0;
-  job = λ w. 0; low = λ w. 0; high = λ w. 0;
-  own = own; hasRead = λ w c. false; hasWritten = λ w c. false;
-  highest = 0; opened = 0;
+  value = first;
+  written = λ c. 0;
+  read = λ c. 0;
+  job = λ w. 0;
+  low = λ w. 0;
+  high = λ w. 0;
+  own = own;
+  hasRead = λ w c. false;
+  hasWritten = λ w c. false;
+  highest = 0;
+  opened = 0;
 }
 
 -- what crew w is told of cell c: its own value where it has written one, else the cell's
@@ -61,40 +68,75 @@ updated f k v j = cond (eqb k j) v (f j)
 -- crew w's own values are put into their cells at place p, and whoever has read one of these first-hand is kept below p
 abbrev pub installed : {V : Type 0} → ℕ → RegisterView V → ℕ → ℕ → RegisterView V
 installed n s w p = record {
-  value = visible s w; written = λ c. cond (s .hasWritten w c) p (s .written c); read = s .read;
-  job = s .job; low = s .low; high = λ u. cond (conflicts s w u n) (min (s .high u) p) (s .high u);
-  own = s .own; hasRead = s .hasRead; hasWritten = s .hasWritten;
-  highest = s .highest; opened = s .opened;
+  value = visible s w;
+  written = λ c. cond (s .hasWritten w c) p (s .written c);
+  read = s .read;
+  job = s .job;
+  low = s .low;
+  high = λ u. cond (conflicts s w u n) (min (s .high u) p) (s .high u);
+  own = s .own;
+  hasRead = s .hasRead;
+  hasWritten = s .hasWritten;
+  highest = s .highest;
+  opened = s .opened;
 }
 
 -- crew w's job is over, at place p: the cells that it read first-hand were read up to there, and the crew's record is closed
 abbrev pub closed : {V : Type 0} → RegisterView V → ℕ → ℕ → RegisterView V
 closed s w p = record {
-  value = s .value; written = s .written; read = λ c. cond (s .hasRead w c) (max (s .read c) p) (s .read c);
-  job = updated (s .job) w 0; low = updated (s .low) w 0; high = updated (s .high) w 0;
-  own = s .own; hasRead = updated (s .hasRead) w (λ c. false); hasWritten = updated (s .hasWritten) w (λ c. false);
-  highest = max (s .highest) p; opened = s .opened;
+  value = s .value;
+  written = s .written;
+  read = λ c. cond (s .hasRead w c) (max (s .read c) p) (s .read c);
+  job = updated (s .job) w 0;
+  low = updated (s .low) w 0;
+  high = updated (s .high) w 0;
+  own = s .own;
+  hasRead = updated (s .hasRead) w (λ c. false);
+  hasWritten = updated (s .hasWritten) w (λ c. false);
+  highest = max (s .highest) p;
+  opened = s .opened;
 }
 
 -- what an accepted call leaves
 abbrev pub viewAfter : {V : Type 0} → ℕ → ℕ → RegisterView V → ℕ → Operation V V ℕ → RegisterView V
 viewAfter top n s w opens = record {
-  value = s .value; written = s .written; read = s .read;
-  job = updated (s .job) w (suc (s .opened)); low = updated (s .low) w (s .highest); high = updated (s .high) w top;
-  own = s .own; hasRead = s .hasRead; hasWritten = s .hasWritten;
-  highest = s .highest; opened = suc (s .opened);
+  value = s .value;
+  written = s .written;
+  read = s .read;
+  job = updated (s .job) w (suc (s .opened));
+  low = updated (s .low) w (s .highest);
+  high = updated (s .high) w top;
+  own = s .own;
+  hasRead = s .hasRead;
+  hasWritten = s .hasWritten;
+  highest = s .highest;
+  opened = suc (s .opened);
 }
 viewAfter top n s w (reads c v) = record {
-  value = s .value; written = s .written; read = s .read;
-  job = s .job; low = updated (s .low) w (cond (s .hasWritten w c) (s .low w) (max (s .low w) (s .written c))); high = s .high;
-  own = s .own; hasRead = updated (s .hasRead) w (updated (s .hasRead w) c (cond (s .hasWritten w c) (s .hasRead w c) true)); hasWritten = s .hasWritten;
-  highest = s .highest; opened = s .opened;
+  value = s .value;
+  written = s .written;
+  read = s .read;
+  job = s .job;
+  low = updated (s .low) w (cond (s .hasWritten w c) (s .low w) (max (s .low w) (s .written c)));
+  high = s .high;
+  own = s .own;
+  hasRead = updated (s .hasRead) w (updated (s .hasRead w) c (cond (s .hasWritten w c) (s .hasRead w c) true));
+  hasWritten = s .hasWritten;
+  highest = s .highest;
+  opened = s .opened;
 }
 viewAfter top n s w (writes c v) = record {
-  value = s .value; written = s .written; read = s .read;
-  job = s .job; low = s .low; high = s .high;
-  own = updated (s .own) w (updated (s .own w) c v); hasRead = s .hasRead; hasWritten = updated (s .hasWritten) w (updated (s .hasWritten w) c true);
-  highest = s .highest; opened = s .opened;
+  value = s .value;
+  written = s .written;
+  read = s .read;
+  job = s .job;
+  low = s .low;
+  high = s .high;
+  own = updated (s .own) w (updated (s .own w) c v);
+  hasRead = s .hasRead;
+  hasWritten = updated (s .hasWritten) w (updated (s .hasWritten w) c true);
+  highest = s .highest;
+  opened = s .opened;
 }
 viewAfter top n s w (commits p) = closed (installed n s w p) w p
 viewAfter top n s w (abandons p) = closed s w p
