@@ -130,7 +130,7 @@ module _ {V : Type 0} (z : Sizes) (first : ℕ → V) (own : ℕ → ℕ → V) 
     with-in-range k run s r w (commits p) sv = (sv .0 .a-crew .0, sv .0 .a-crew .1, r)
     with-in-range k run s r w (abandons p) sv = (sv .0 .a-crew .0, sv .0 .a-crew .1, r)
 
-    run-with-view-run : {k₀ : C} {run : History V} {s : RegisterView V} {k : C} → RunWith ch z first own k₀ run s k → ViewRun (z .top) (z .cells) first own run s × InRange (z .cells) (z .crews) run
+    pub run-with-view-run : {k₀ : C} {run : History V} {s : RegisterView V} {k : C} → RunWith ch z first own k₀ run s k → ViewRun (z .top) (z .cells) first own run s × InRange (z .cells) (z .crews) run
     run-with-view-run RunWith.starts = (ViewRun.starts, tt)
     run-with-view-run (RunWith.goes-on {run = run} {s = s} {k = k} {w = w} {o = d} g sv) =
         let i = run-with-view-run g in

@@ -13,3 +13,4 @@ pub mod Positions
 pub mod Accepting
 pub mod Permissiveness
 pub mod Choosing
+pub mod Examples

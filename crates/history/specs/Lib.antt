@@ -8,3 +8,4 @@ pub mod Bounds
 pub mod Views
 pub mod Acceptance
 pub mod Theorems
+pub mod Examples

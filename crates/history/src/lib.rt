@@ -1,6 +1,7 @@
 // Histories of a register's calls, and the theorems about them. The functions return nothing of use: each has a theorem for its contract.
 ghost use Rattle.history.specs.Theorems.{RespectfulOrdersExplain, AscendingRowsAreOrders, PlacesGiveAnOrder, MovedBoundsAgree, BoundsAreOpaque, ViewsAreOpaque};
 ghost use Rattle.history.specs.Theorems.{AnswersDoNotMatter, ViewsArePermissive, PositionsAreAccepted, ScriptsKeepTheLaw, ScriptsArePermissive, PositionsMakeAScript, ChosenPlacesGiveAnOrder};
+ghost use Rattle.history.specs.Examples.{CrossedReadsHaveNoOrder, OvertakingHasAnOrder, ReadSkewIsNotExplained};
 
 pub fn respectful_orders_explain<V>() -> u8
     ensures { λ _. ⌜ RespectfulOrdersExplain V ⌝ }
@@ -76,6 +77,24 @@ pub fn positions_make_a_script<V>() -> u8
 
 pub fn chosen_places_give_an_order<V, C>() -> u8
     ensures { λ _. ⌜ ChosenPlacesGiveAnOrder V C ⌝ }
+{
+    0
+}
+
+pub fn crossed_reads_have_no_order() -> u8
+    ensures { λ _. ⌜ CrossedReadsHaveNoOrder ⌝ }
+{
+    0
+}
+
+pub fn overtaking_has_an_order() -> u8
+    ensures { λ _. ⌜ OvertakingHasAnOrder ⌝ }
+{
+    0
+}
+
+pub fn read_skew_is_not_explained() -> u8
+    ensures { λ _. ⌜ ReadSkewIsNotExplained ⌝ }
 {
     0
 }
