@@ -6,8 +6,8 @@ use mathlib.Core.Logic.{_⊎_, inl, inr}
 use Prim.Native.Nat.{ℕ, zero, suc, _+_, _≤_, _<_, min, max}
 use native.Mathlib.Omega.{arith}
 use lib.Dec.{eqb, leb}
+use Rattle.std.proofs.shelf.Tests.{eqb-true, eqb-false, both-ways, leb-true, leb-false, and-parts, or-cases}
 use Rattle.std.specs.declared.option.Option.the-variants.{None}
-use Rattle.std.proofs.shelf.Tests.{eqb-true, eqb-false, eq-eqb, ne-eqb, both-ways, leb-true, leb-false, or-cases, and-parts}
 use Rattle.history.specs.Events.{Operation, Event, Events, History, openings, openJob, byJobs}
 use Rattle.history.specs.Events.Operation.{opens, reads, writes, commits, abandons}
 use Rattle.history.specs.Events.Event.{by}
@@ -345,7 +345,7 @@ module _ {V : Type 0} (top n m : ℕ) (first : ℕ → V) (own : ℕ → ℕ →
         fits = open-fits top n first at (g .accepted .run) (g .accepted .view) (run-facts-of g) (g .fits) w j k;
       }
   accepted-so-far (by w (reads c t) ∷ cs) wm r f =
-      let g = accepted-so-far cs (wm .1) (r .4) (rising-tail top at w (reads c t) cs f) in
+      let g = accepted-so-far cs (wm .1) (r .2) (rising-tail top at w (reads c t) cs f) in
       let s = g .accepted .view in
       let v = cond (s .hasWritten w c) (s .own w c) (s .value c) in
       let a = busy g w (wm .0) in
@@ -361,7 +361,7 @@ module _ {V : Type 0} (top n m : ℕ) (first : ℕ → V) (own : ℕ → ℕ →
         fits = read-fits top n first at (g .accepted .run) s (run-facts-of g) (g .fits) w c v a refl k;
       }
   accepted-so-far (by w (writes c v) ∷ cs) wm r f =
-      let g = accepted-so-far cs (wm .1) (r .4) (rising-tail top at w (writes c v) cs f) in
+      let g = accepted-so-far cs (wm .1) (r .2) (rising-tail top at w (writes c v) cs f) in
       let s = g .accepted .view in
       let a = busy g w (wm .0) in
       record {
@@ -370,9 +370,9 @@ module _ {V : Type 0} (top n m : ℕ) (first : ℕ → V) (own : ℕ → ℕ →
           view = viewAfter top n s w (writes c v);
           same-calls = ap (λ z. by w (writes c v) ∷ z) (g .accepted .same-calls);
           same-places = g .accepted .same-places;
-          view-run = goes-on (g .accepted .view-run) (write-accepted top n first at (g .accepted .run) s (run-facts-of g) (g .fits) w c v a (r .2) (r .3));
+          view-run = goes-on (g .accepted .view-run) (write-accepted top n first at (g .accepted .run) s (run-facts-of g) (g .fits) w c v a (r .1 .0) (r .1 .1));
         };
-        fits = write-fits top n first at (g .accepted .run) s (run-facts-of g) (g .fits) w c v a (r .2) (r .3);
+        fits = write-fits top n first at (g .accepted .run) s (run-facts-of g) (g .fits) w c v a (r .1 .0) (r .1 .1);
       }
   accepted-so-far (by w (commits t) ∷ cs) wm r f =
       let g = accepted-so-far cs (wm .1) (r .2) (rising-tail top at w (commits t) cs f) in

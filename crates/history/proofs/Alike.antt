@@ -126,8 +126,8 @@ module _ {V R P S Q : Type 0} where
   pub range-alike : (n m : ℕ) {h : Events V R P} {g : Events V S Q} → Alike h g → InRange n m h → InRange n m g
   range-alike n m none r = tt
   range-alike n m (more open-open a) r = (r .0, r .1, range-alike n m a (r .2))
-  range-alike n m (more read-read a) r = (r .0, r .1, r .2, r .3, range-alike n m a (r .4))
-  range-alike n m (more write-write a) r = (r .0, r .1, r .2, r .3, range-alike n m a (r .4))
+  range-alike n m (more read-read a) r = (r .0, r .1, range-alike n m a (r .2))
+  range-alike n m (more write-write a) r = (r .0, r .1, range-alike n m a (r .2))
   range-alike n m (more commit-commit a) r = (r .0, r .1, range-alike n m a (r .2))
   range-alike n m (more abandon-abandon a) r = (r .0, r .1, range-alike n m a (r .2))
 

@@ -6,19 +6,19 @@ use mathlib.Core.Logic.{_↔_}
 use Prim.Native.Nat.{ℕ, zero, suc, _+_, _≤_, _<_, min, max}
 use native.Mathlib.Omega.{arith}
 use lib.Dec.{eqb, leb, ltb}
-use Rattle.std.proofs.shelf.Tests.{eqb-true, eqb-false, eq-eqb, ne-eqb, both-ways, leb-true, leb-false, le-leb, lt-leb, lt-ltb, ltb-true, and-parts, and-from}
+use Rattle.std.proofs.shelf.Tests.{eqb-true, eqb-false, ne-eqb, both-ways, leb-true, le-leb, le-ltb, lt-ltb, ltb-true, and-parts, and-from}
 use Rattle.history.specs.Events.{Operation, Events, History, openings, openJob, byJobs}
 use Rattle.history.specs.Events.Operation.{opens, reads, writes, commits, abandons}
 use Rattle.history.specs.Events.Event.{by}
 use Rattle.history.specs.Precedence.{SerializationOrder}
-use Rattle.history.specs.WellMade.{Calls, InRange, WellMadeList}
+use Rattle.history.specs.WellMade.{Calls, UpTo, InRange, WellMadeList}
 use Rattle.history.specs.Views.{RegisterView, conflicts, Accepts, viewAfter, ViewRun}
-use Rattle.history.specs.Acceptance.{placesOf, position, positions, Chooser, KeepsLaw, fitted, scriptChooser, reverseOnto, cellsLowerBound, isOpenReader, readersLowerBound, commitLowerBound, Sizes, UpTo, AtWork, AcceptsWith, RunWith, AcceptedWith}
+use Rattle.history.specs.Acceptance.{placesOf, position, positions, Chooser, KeepsLaw, nextFitted, scriptChooser, reverseOnto, cellsLowerBound, isOpenReader, readersLowerBound, commitLowerBound, Sizes, AtWork, AcceptsWith, RunWith, AcceptedWith}
 use Rattle.history.proofs.Viewing.{RunFacts, run-facts}
 use Rattle.history.proofs.Alike.{Alike, alike-sym, openings-alike, range-alike, calls-alike}
 use Rattle.history.proofs.Permissiveness.{positions-accepted, accepted-has-order}
 
-script-between : (ks : List ℕ) (low high : ℕ) → low + 2 ≤ high → (low < fitted ks low high) × (fitted ks low high < high)
+script-between : (ks : List ℕ) (low high : ℕ) → low + 2 ≤ high → (low < nextFitted ks low high) × (nextFitted ks low high < high)
 script-between [] low high l = (omega arith, omega arith)
 script-between (k ∷ ks) low high l = go (ltb low k && ltb k high) refl
   where
@@ -28,13 +28,13 @@ script-between (k ∷ ks) low high l = go (ltb low k && ltb k high) refl
 
 pub script-keeps-law : KeepsLaw scriptChooser
 script-keeps-law = record {
-  between = λ ks low high l. rw (le-leb (low + 2) high l) (script-between ks low high l);
-  unmoved-without-room = λ ks low high l. rw (lt-leb (low + 2) high l) (refl, refl);
+  between = λ ks low high l. rw (le-ltb high (low + 2) l) (script-between ks low high l);
+  unmoved-without-room = λ ks low high l. rw (lt-ltb high (low + 2) l) (refl, refl);
 }
 
 -- a number of the script that lies between the bounds is given
 script-gives : (k : ℕ) (ks : List ℕ) (low high : ℕ) → low < k → k < high → (scriptChooser .gives (k ∷ ks) low high ≡ k) × (scriptChooser .next (k ∷ ks) low high ≡ ks)
-script-gives k ks low high l u = rw (le-leb (low + 2) high (omega arith), and-from (ltb low k) (ltb k high) (lt-ltb low k l) (lt-ltb k high u)) (refl, refl)
+script-gives k ks low high l u = rw (le-ltb high (low + 2) (omega arith), and-from (ltb low k) (ltb k high) (lt-ltb low k l) (lt-ltb k high u)) (refl, refl)
 
 ---- the floor of a commit is above each of its parts, and below what is above all of them
 module _ {V : Type 0} (n : ℕ) (s : RegisterView V) (w : ℕ) where
@@ -89,10 +89,10 @@ job-range n m [] r u a = absurd (omega arith)
 job-range n m (by w opens ∷ run) r u a = go (eqb w u) refl a (job-range n m run (r .2) u)
   where
     go : (b : Bool) → eqb w u ≡ b → 1 ≤ cond b (suc (openings run)) (openJob run u) → (1 ≤ openJob run u → UpTo m u) → UpTo m u
-    go true e a ih = let q = eqb-true w u e in (omega (arith, r .0), omega (arith, r .1))
+    go true e a ih = let q = eqb-true w u e in (omega (arith, r .0 .0), omega (arith, r .0 .1))
     go false e a ih = ih a
-job-range n m (by w (reads c v) ∷ run) r u a = job-range n m run (r .4) u a
-job-range n m (by w (writes c v) ∷ run) r u a = job-range n m run (r .4) u a
+job-range n m (by w (reads c v) ∷ run) r u a = job-range n m run (r .2) u a
+job-range n m (by w (writes c v) ∷ run) r u a = job-range n m run (r .2) u a
 job-range n m (by w (commits p) ∷ run) r u a = go (eqb w u) a (job-range n m run (r .2) u)
   where
     go : (b : Bool) → 1 ≤ cond b 0 (openJob run u) → (1 ≤ openJob run u → UpTo m u) → UpTo m u
@@ -124,11 +124,11 @@ module _ {V : Type 0} (z : Sizes) (first : ℕ → V) (own : ℕ → ℕ → V) 
     with-accepts k run s aw r w (abandons p) sv = let b = fair .between k (s .low w) (s .high w) (sv .0 .room) in (sv .0 .a-job, rw (sv .1) (b .0), rw (sv .1) (b .1))
 
     with-in-range : (k : C) (run : History V) (s : RegisterView V) → InRange (z .cells) (z .crews) run → (w : ℕ) (d : Operation V V ℕ) → AcceptsWith ch z k s w d → InRange (z .cells) (z .crews) (by w d ∷ run)
-    with-in-range k run s r w opens sv = (sv .0 .0, sv .0 .1, r)
-    with-in-range k run s r w (reads c v) sv = (sv .0 .a-crew .0, sv .0 .a-crew .1, sv .1 .0, sv .1 .1, r)
-    with-in-range k run s r w (writes c v) sv = (sv .0 .a-crew .0, sv .0 .a-crew .1, sv .1 .0, sv .1 .1, r)
-    with-in-range k run s r w (commits p) sv = (sv .0 .a-crew .0, sv .0 .a-crew .1, r)
-    with-in-range k run s r w (abandons p) sv = (sv .0 .a-crew .0, sv .0 .a-crew .1, r)
+    with-in-range k run s r w opens sv = (sv .0, tt, r)
+    with-in-range k run s r w (reads c v) sv = (sv .0 .a-crew, sv .1, r)
+    with-in-range k run s r w (writes c v) sv = (sv .0 .a-crew, sv .1, r)
+    with-in-range k run s r w (commits p) sv = (sv .0 .a-crew, tt, r)
+    with-in-range k run s r w (abandons p) sv = (sv .0 .a-crew, tt, r)
 
     pub run-with-view-run : {k₀ : C} {run : History V} {s : RegisterView V} {k : C} → RunWith ch z first own k₀ run s k → ViewRun (z .top) (z .cells) first own run s × InRange (z .cells) (z .crews) run
     run-with-view-run RunWith.starts = (ViewRun.starts, tt)
@@ -171,25 +171,21 @@ module _ {V : Type 0} (z : Sizes) (first : ℕ → V) (own : ℕ → ℕ → V) 
   at-work run s aw hb w c j = record { a-crew = c; a-job = j; room = aw .view-facts .room w (rw (← aw .view-facts .job-is w) j); below-top = hb w }
 
   accepts-by-script : (run : History V) (s : RegisterView V) → RunFacts (z .top) (z .cells) first run s → ((u : ℕ) → s .high u ≤ z .top) → (w : ℕ) (d : Operation V V ℕ) → Accepts (z .top) (z .cells) s w d → InRange (z .cells) (z .crews) (by w d ∷ run) → openings (by w d ∷ run) ≤ z .entries → ByScript run s → ByScript (by w d ∷ run) (viewAfter (z .top) (z .cells) s w d)
-  accepts-by-script run s aw hb w opens ac r f ih qs = RunWith.goes-on (ih qs) ((r .0, r .1), ac .0, ac .1, rw (aw .view-facts .opened-is) f)
-  accepts-by-script run s aw hb w (reads c v) ac r f ih qs = RunWith.goes-on (ih qs) (at-work run s aw hb w (r .0, r .1) (ac .0), (r .2, r .3), ac .1, ac .2)
-  accepts-by-script run s aw hb w (writes c v) ac r f ih qs = RunWith.goes-on (ih qs) (at-work run s aw hb w (r .0, r .1) (ac .0), (r .2, r .3))
+  accepts-by-script run s aw hb w opens ac r f ih qs = RunWith.goes-on (ih qs) (r .0, ac .0, ac .1, rw (aw .view-facts .opened-is) f)
+  accepts-by-script run s aw hb w (reads c v) ac r f ih qs = RunWith.goes-on (ih qs) (at-work run s aw hb w (r .0) (ac .0), r .1, ac .1, ac .2)
+  accepts-by-script run s aw hb w (writes c v) ac r f ih qs = RunWith.goes-on (ih qs) (at-work run s aw hb w (r .0) (ac .0), r .1)
   accepts-by-script run s aw hb w (commits p) ac r f ih qs =
       let l : commitLowerBound (z .cells) (z .crews) s w < p = omega (arith, ac .1, cells-bound-below (z .cells) s w p (z .cells) (omega (arith, ac .1)) (ac .3), readers-bound-below (z .cells) s w p (z .crews) (omega (arith, ac .1)) (ac .4)) in
       let g = script-gives p qs (commitLowerBound (z .cells) (z .crews) s w) (s .high w) l (ac .2) in
       subst (λ k. RunWith scriptChooser z first own (reverseOnto (placesOf run) (p ∷ qs)) (by w (commits p) ∷ run) (viewAfter (z .top) (z .cells) s w (commits p)) k) (g .1)
-      (RunWith.goes-on (ih (p ∷ qs)) (at-work run s aw hb w (r .0, r .1) (ac .0), omega (arith, l, ac .2), sym (g .0)))
+      (RunWith.goes-on (ih (p ∷ qs)) (at-work run s aw hb w (r .0) (ac .0), omega (arith, l, ac .2), sym (g .0)))
   accepts-by-script run s aw hb w (abandons p) ac r f ih qs =
       let g = script-gives p qs (s .low w) (s .high w) (ac .1) (ac .2) in
       subst (λ k. RunWith scriptChooser z first own (reverseOnto (placesOf run) (p ∷ qs)) (by w (abandons p) ∷ run) (viewAfter (z .top) (z .cells) s w (abandons p)) k) (g .1)
-      (RunWith.goes-on (ih (p ∷ qs)) (at-work run s aw hb w (r .0, r .1) (ac .0), sym (g .0)))
+      (RunWith.goes-on (ih (p ∷ qs)) (at-work run s aw hb w (r .0) (ac .0), sym (g .0)))
 
   range-on : (w : ℕ) (d : Operation V V ℕ) (run : History V) → InRange (z .cells) (z .crews) (by w d ∷ run) → InRange (z .cells) (z .crews) run
-  range-on w opens run r = r .2
-  range-on w (reads c v) run r = r .4
-  range-on w (writes c v) run r = r .4
-  range-on w (commits p) run r = r .2
-  range-on w (abandons p) run r = r .2
+  range-on w d run r = r .2
 
   openings-on : (w : ℕ) (d : Operation V V ℕ) (run : History V) → openings (by w d ∷ run) ≤ z .entries → openings run ≤ z .entries
   openings-on w opens run f = omega arith

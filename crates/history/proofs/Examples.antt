@@ -63,7 +63,7 @@ pub crossed-reads : CrossedReadsHaveNoOrder
 crossed-reads = record {
   well-made = record {
     orderly = (lit≤ tt, (lit≤ tt, (lit≤ tt, (lit≤ tt, (lit≤ tt, (lit≤ tt, (refl, (refl, tt))))))));
-    in-range = (lit≤ tt, lit≤ tt, (lit≤ tt, lit≤ tt, (lit≤ tt, lit≤ tt, lit≤ tt, lit≤ tt, (lit≤ tt, lit≤ tt, lit≤ tt, lit≤ tt, (lit≤ tt, lit≤ tt, lit≤ tt, lit≤ tt, (lit≤ tt, lit≤ tt, lit≤ tt, lit≤ tt, (lit≤ tt, lit≤ tt, (lit≤ tt, lit≤ tt, tt))))))));
+    in-range = ((lit≤ tt, lit≤ tt), tt, ((lit≤ tt, lit≤ tt), tt, ((lit≤ tt, lit≤ tt), (lit≤ tt, lit≤ tt), ((lit≤ tt, lit≤ tt), (lit≤ tt, lit≤ tt), ((lit≤ tt, lit≤ tt), (lit≤ tt, lit≤ tt), ((lit≤ tt, lit≤ tt), (lit≤ tt, lit≤ tt), ((lit≤ tt, lit≤ tt), tt, ((lit≤ tt, lit≤ tt), tt, tt))))))));
     entries-suffice = lit≤ tt;
   };
   one-before-two = crossed-12;

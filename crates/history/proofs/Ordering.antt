@@ -6,9 +6,9 @@ use mathlib.Core.Logic.{_⊎_, inl, inr}
 use Prim.Native.Nat.{ℕ, zero, suc, _≤_, _<_}
 use native.Mathlib.Omega.{arith}
 use lib.Dec.{eqb, leb}
+use Rattle.std.proofs.shelf.Tests.{eqb-true, eqb-false, leb-true, leb-false}
 use Rattle.std.specs.declared.option.Option.{Option}
 use Rattle.std.specs.declared.option.Option.the-variants.{Some, None}
-use Rattle.std.proofs.shelf.Tests.{eqb-true, eqb-false, eq-eqb, ne-eqb, both-ways, leb-true, leb-false}
 use Rattle.history.specs.Events.{History, openings}
 use Rattle.history.specs.Projections.{projection, endPlace, WellFormed}
 use Rattle.history.specs.Values.{ReadsCurrent}

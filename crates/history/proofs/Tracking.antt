@@ -6,9 +6,9 @@ use mathlib.Core.Logic.{_⊎_, inl, inr}
 use Prim.Native.Nat.{ℕ, _≤_, _<_}
 use native.Mathlib.Omega.{arith}
 use lib.Dec.{eqb}
+use Rattle.std.proofs.shelf.Tests.{eqb-true, eq-eqb, ne-eqb, both-ways}
 use Rattle.std.specs.declared.option.Option.{Option}
 use Rattle.std.specs.declared.option.Option.the-variants.{Some, None}
-use Rattle.std.proofs.shelf.Tests.{eqb-true, eqb-false, eq-eqb, ne-eqb, both-ways, leb-true, leb-false}
 use Rattle.history.specs.Events.{Operation, Event, History, endsAt}
 use Rattle.history.specs.Events.Operation.{opens, reads, writes, commits, abandons}
 use Rattle.history.specs.Events.Event.{by}

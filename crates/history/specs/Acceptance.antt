@@ -10,7 +10,7 @@ use Rattle.std.specs.declared.option.Option.the-variants.{Some, None}
 use Rattle.history.specs.Events.{Operation, Events, History, endsAt, isEnding, openJob}
 use Rattle.history.specs.Events.Operation.{opens, reads, writes, commits, abandons}
 use Rattle.history.specs.Events.Event.{by}
-use Rattle.history.specs.WellMade.{Calls, callsOf}
+use Rattle.history.specs.WellMade.{Calls, callsOf, UpTo}
 use Rattle.history.specs.Views.{RegisterView, freshView, visible, conflicts, viewAfter, ViewRun}
 
 ---- At given places
@@ -54,20 +54,24 @@ pub record KeepsLaw {C : Type 0} (chooser : Chooser C) : Type 0 where
   pub between : (k : C) (low high : ℕ) → low + 2 ≤ high → (low < chooser .gives k low high) × (chooser .gives k low high < high)
   pub unmoved-without-room : (k : C) (low high : ℕ) → high < low + 2 → (chooser .gives k low high ≡ low) × (chooser .next k low high ≡ k)
 
--- The script: its condition is what is left of its list, the next number first. It gives the next number if that is between the bounds,
--- and otherwise, or if none is left, the first place above the low one.
-abbrev pub fitted : List ℕ → ℕ → ℕ → ℕ
-fitted [] low high = low + 1
-fitted (k ∷ ks) low high = cond (ltb low k && ltb k high) k (low + 1)
+-- no place lies between the bounds
+abbrev pub noRoom : ℕ → ℕ → Bool
+noRoom low high = ltb high (low + 2)
+
+-- The script: its condition is the numbers that are left of it. Where there is room it gives the next number if that lies between the bounds,
+-- and otherwise, or if none is left, low + 1; each such giving uses up one number.
+abbrev pub nextFitted : List ℕ → ℕ → ℕ → ℕ
+nextFitted [] low high = low + 1
+nextFitted (number ∷ numbers) low high = cond (ltb low number && ltb number high) number (low + 1)
 
 abbrev pub afterNext : List ℕ → List ℕ
 afterNext [] = []
-afterNext (k ∷ ks) = ks
+afterNext (number ∷ numbers) = numbers
 
 abbrev pub scriptChooser : Chooser (List ℕ)
 scriptChooser = record {
-  gives = λ numbers low high. cond (leb (low + 2) high) (fitted numbers low high) low;
-  next = λ numbers low high. cond (leb (low + 2) high) (afterNext numbers) numbers;
+  gives = λ numbers low high. cond (noRoom low high) low (nextFitted numbers low high);
+  next = λ numbers low high. cond (noRoom low high) numbers (afterNext numbers);
 }
 
 -- a list the other way round, before another: the places of a run, newest first, as a script's numbers
@@ -103,9 +107,6 @@ pub record Sizes : Type 0 where
   pub cells : ℕ
   pub crews : ℕ
   pub entries : ℕ
-
-abbrev pub UpTo : ℕ → ℕ → Type 0
-UpTo most k = (1 ≤ k) × (k ≤ most)
 
 -- a crew with an open job whose record is not damaged
 pub record AtWork {V : Type 0} (z : Sizes) (s : RegisterView V) (w : ℕ) : Type 0 where

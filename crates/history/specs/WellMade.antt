@@ -28,14 +28,22 @@ abbrev pub callsOf : {V R P : Type 0} → Events V R P → Calls V
 callsOf [] = []
 callsOf (by w o ∷ run) = by w (asked o) ∷ callsOf run
 
--- crews count from 1 to `crews`, and cells from 1 to `cells`
+-- a number from 1 up to `most`
+abbrev pub UpTo : ℕ → ℕ → Type 0
+UpTo most k = (1 ≤ k) × (k ≤ most)
+
+-- the cell that an operation names, if it names one, is one of `cells`
+abbrev pub NamesCell : {V R P : Type 0} → ℕ → Operation V R P → Type 0
+NamesCell cells opens = Unit {0}
+NamesCell cells (reads c v) = UpTo cells c
+NamesCell cells (writes c v) = UpTo cells c
+NamesCell cells (commits p) = Unit {0}
+NamesCell cells (abandons p) = Unit {0}
+
+-- all crews are from 1 to `crews`, and all cells from 1 to `cells`
 abbrev pub InRange : {V R P : Type 0} → ℕ → ℕ → Events V R P → Type 0
 InRange cells crews [] = Unit {0}
-InRange cells crews (by w opens ∷ run) = (1 ≤ w) × (w ≤ crews) × InRange cells crews run
-InRange cells crews (by w (reads c v) ∷ run) = (1 ≤ w) × (w ≤ crews) × (1 ≤ c) × (c ≤ cells) × InRange cells crews run
-InRange cells crews (by w (writes c v) ∷ run) = (1 ≤ w) × (w ≤ crews) × (1 ≤ c) × (c ≤ cells) × InRange cells crews run
-InRange cells crews (by w (commits p) ∷ run) = (1 ≤ w) × (w ≤ crews) × InRange cells crews run
-InRange cells crews (by w (abandons p) ∷ run) = (1 ≤ w) × (w ≤ crews) × InRange cells crews run
+InRange cells crews (by w o ∷ run) = UpTo crews w × NamesCell cells o × InRange cells crews run
 
 -- a well-made list for a register of so many cells, crews and entries of its day book
 pub record WellMadeList {V : Type 0} (cells crews entries : ℕ) (calls : Calls V) : Type 0 where
