@@ -99,11 +99,7 @@ module _ {V : Type 0} where
       go false e a ih = rw (ne-eqb (openJob run u) (openJob run w) (λ q. eqb-false u w e (sym (one-crew run w u a (sym q))))) (ih a)
 
   pub well-made-tail : (a : Event V V ℕ) (run : History V) → WellMade (a ∷ run) → WellMade run
-  well-made-tail (by y opens) run wm = wm .1
-  well-made-tail (by y (reads c v)) run wm = wm .1
-  well-made-tail (by y (writes c v)) run wm = wm .1
-  well-made-tail (by y (commits c)) run wm = wm .1
-  well-made-tail (by y (abandons c)) run wm = wm .1
+  well-made-tail (by w o) run wm = wm .1
 
   pub well-formed : (run : History V) → WellMade run → WellFormed (byJobs run)
   well-formed [] wm = tt

@@ -17,15 +17,14 @@ use Rattle.history.specs.Precedence.Precedes.{committed-read, read-committed}
 use Rattle.history.specs.SerialExecution.{executeJob, executeSerially, SeriallyExplained}
 use Rattle.history.specs.WellMade.{WellMade, Calls, callsOf}
 use Rattle.history.specs.Bounds.{boundsByJob}
+use Rattle.history.specs.Views.{boundsOf}
 use Rattle.history.specs.Acceptance.{scriptChooser, AcceptedWith}
 use Rattle.history.specs.Acceptance.RunWith.{starts, goes-on}
 use Rattle.history.specs.Examples.{firstValues, small, crossedReads, CrossedReadsHaveNoOrder, overtaking, OvertakingHasAnOrder, readSkew, ReadSkewIsNotExplained}
 use Rattle.history.proofs.Rows.{one-way, in-cases, in-nil}
-use Rattle.history.proofs.Serially.{respectful-orders-explain}
-use Rattle.history.proofs.Ordering.{ascending-is-order, order-respects}
+use Rattle.history.proofs.Ordering.{ascending-is-order, orders-explain}
 use Rattle.history.proofs.Crews.{well-formed}
-use Rattle.history.proofs.Opacity.{tracked, bounds-run}
-use Rattle.history.proofs.Viewing.{boundsOf, run-facts, crew-run}
+use Rattle.history.proofs.Viewing.{views-agree}
 use Rattle.history.proofs.Choosing.{script-keeps-law, run-with-view-run, chosen-has-order}
 
 ---- Two jobs that precede each other have no order
@@ -126,12 +125,10 @@ overtaking-order : SerializationOrder (byJobs overtaking) (1 ∷ 2 ∷ [])
 unfolding overtaking-accepted
 overtaking-order =
     let g = run-with-view-run small firstValues (λ w c. 0) scriptChooser script-keeps-law (overtaking-accepted .run-with) .0 in
-    let f = run-facts (2 ^ 62) 2 firstValues (λ w c. 0) g in
+    let agrees = views-agree firstValues (λ w c. 0) (2 ^ 62) 2 overtaking (overtaking-accepted .view) (lit≤ tt) g in
     let b = boundsByJob (2 ^ 62) overtaking (boundsOf (overtaking-accepted .view)) in
-    let placed = tracked (2 ^ 62) (lit≤ tt) (well-formed overtaking (f .well-made)) (bounds-run (2 ^ 62) (crew-run (2 ^ 62) 2 firstValues (λ w c. 0) g) (lit≤ tt) (f .well-made)) .placed in
-    ascending-is-order (byJobs overtaking) (b .low) (b .high) placed (1 ∷ 2 ∷ [])
-    (λ x p. let k = pair-row x x p in omega (arith, k .0, k .1))
-    pair-in pair-only
+    ascending-is-order (byJobs overtaking) (b .low) (b .high) (agrees .tracked .placed) (1 ∷ 2 ∷ [])
+    (λ x p. let k = pair-row x x p in omega (arith, k .0, k .1)) pair-in pair-only
     (λ x y p. let k = pair-row x y p in rw (k .0, k .1) (lit≤ {m = 3} {n = 6} tt))
 
 overtaking-well-made : WellMade overtaking
@@ -140,7 +137,7 @@ overtaking-well-made = (lit≤ tt, (lit≤ tt, (lit≤ tt, (lit≤ tt, (lit≤ t
 overtaking-explained : SeriallyExplained firstValues (byJobs overtaking) (1 ∷ 2 ∷ [])
 overtaking-explained =
     let wf = well-formed overtaking overtaking-well-made in
-    respectful-orders-explain firstValues (byJobs overtaking) (1 ∷ 2 ∷ []) wf (refl, (refl, tt)) (order-respects (byJobs overtaking) (1 ∷ 2 ∷ []) wf overtaking-order)
+    orders-explain firstValues (byJobs overtaking) (1 ∷ 2 ∷ []) wf (refl, (refl, tt)) overtaking-order
 
 -- in the order of the commits job 2 is told 15
 second-told-15 : SeriallyExplained firstValues (byJobs overtaking) (2 ∷ 1 ∷ []) → ⊥

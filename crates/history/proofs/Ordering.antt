@@ -171,9 +171,12 @@ module _ {V : Type 0} (h : History V) (low high : ℕ → ℕ) (pl : Placed h lo
 pub order-respects : {V : Type 0} (h : History V) (row : List ℕ) → WellFormed h → SerializationOrder h row → Respects h row
 order-respects h row pr l = record { once = l .once; rules = l .rules; all-committed = λ x q. let n = committed-numbered h pr x q in l .all x (n .0) (n .1) }
 
+pub orders-explain : {V : Type 0} (first : ℕ → V) (h : History V) (row : List ℕ) → WellFormed h → ReadsCurrent first h → SerializationOrder h row → SeriallyExplained first h row
+orders-explain first h row wf rc l = respectful-orders-explain first h row wf rc (order-respects h row wf l)
+
 pub places-give-order : {V : Type 0} (first : ℕ → V) (h : History V) (low high : ℕ → ℕ) → WellFormed h → ReadsCurrent first h → Placed h low high →
     (row : List ℕ) × SerializationOrder h row × Ascending (sortKey h low) row × SeriallyExplained first h row
 places-give-order first h low high wf rc pl =
     let l = arranged-is-order h low high pl in
     let row = arrange (sortKey h low) (openings h) in
-    (row, l, arranged-ascends (sortKey h low) (openings h), respectful-orders-explain first h row wf rc (order-respects h row wf l))
+    (row, l, arranged-ascends (sortKey h low) (openings h), orders-explain first h row wf rc l)

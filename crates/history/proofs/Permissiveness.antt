@@ -14,7 +14,7 @@ use Rattle.history.specs.WellMade.{WellMade, Calls, WellMadeList}
 use Rattle.history.specs.Acceptance.{AcceptedAt, position, positions, scriptChooser}
 use Rattle.history.proofs.Rows.{extends-trans}
 use Rattle.history.proofs.Crews.{openings-by-job, open-job-numbered}
-use Rattle.history.proofs.Viewing.{view-opaque}
+use Rattle.history.proofs.Viewing.{views-opaque}
 use Rattle.history.proofs.Alike.{Alike, by-jobs-alike, order-alike, calls-alike}
 use Rattle.history.proofs.Positions.{position-rises, position-low, row-length}
 use Rattle.history.proofs.Accepting.{RisingPlaces, rising-accepted}
@@ -69,7 +69,7 @@ positions-accepted first own top n m b cs t wl row l = rising-accepted top n m f
 
 pub accepted-has-order : {V : Type 0} (first : ℕ → V) (own : ℕ → ℕ → V) (top n : ℕ) (cs : Calls V) (scriptChooser : List ℕ) → 2 ≤ top → AcceptedAt top n first own cs scriptChooser → (row : List ℕ) × SerializationOrder (byJobs cs) row
 accepted-has-order first own top n cs scriptChooser t a =
-    let o = view-opaque first own top n (a .run) (a .view) t (a .view-run) in
+    let o = views-opaque first own top n (a .run) (a .view) t (a .view-run) (a .run) here in
     let k = subst (λ z. Alike (a .run) z) (a .same-calls) (calls-alike (a .run)) in
     (o .0, order-alike (by-jobs-alike k) (o .1))
 

@@ -12,17 +12,16 @@ use Rattle.history.specs.Events.Operation.{opens, reads, writes, commits, aban
 use Rattle.history.specs.Events.Event.{by}
 use Rattle.history.specs.Projections.{projection, buffered, isActive, orElse, endPlace}
 use Rattle.history.specs.Values.{committedValue, ReadsCurrent}
-use Rattle.history.specs.Precedence.{Extends, Wrote, ReadGlobally, SerializationOrder}
-use Rattle.history.specs.Precedence.Extends.{here, later}
-use Rattle.history.specs.SerialExecution.{SeriallyExplained}
+use Rattle.history.specs.Precedence.{Wrote, ReadGlobally}
+use Rattle.history.specs.SerialExecution.{Opaque}
 use Rattle.history.specs.WellMade.{WellMade}
-use Rattle.history.specs.Bounds.{Bounds, CrewMoves, CrewRun}
-use Rattle.history.specs.Views.{RegisterView, conflicts, Accepts, updated, viewAfter, ViewRun}
+use Rattle.history.specs.Bounds.{CrewMoves, CrewRun}
+use Rattle.history.specs.Views.{RegisterView, conflicts, Accepts, updated, viewAfter, ViewRun, boundsOf, ViewAgrees}
 use Rattle.history.specs.Views.ViewRun.{starts, goes-on}
 use Rattle.history.proofs.Moments.{none-some, buffered-wrote, unbuffered-unwritten, unopened-projection}
 use Rattle.history.proofs.Tracking.{read-cases, reader-active}
 use Rattle.history.proofs.Crews.{openings-by-job, open-job-numbered, one-crew, well-formed}
-use Rattle.history.proofs.Opacity.{bounds-opaque}
+use Rattle.history.proofs.Opacity.{tracked, bounds-run, bounds-opaque}
 
 updated-at : {A : Type 0} (f : ℕ → A) (k : ℕ) (v : A) → updated f k v k ≡ v
 updated-at f k v = rw (eq-eqb k k refl)
@@ -37,9 +36,6 @@ conflicts-from s w u (suc n) c a b r k = go (eqb c (suc n)) refl (conflicts-from
     go : (t : Bool) → eqb c (suc n) ≡ t → (c ≤ n → s .hasRead u c ≡ true → s .hasWritten w c ≡ true → conflicts s w u n ≡ true) → conflicts s w u (suc n) ≡ true
     go true e ih = or-left (s .hasRead u (suc n) && s .hasWritten w (suc n)) (conflicts s w u n) (and-from (s .hasRead u (suc n)) (s .hasWritten w (suc n)) (rw (← eqb-true c (suc n) e) r) (rw (← eqb-true c (suc n) e) k))
     go false e ih = or-right (s .hasRead u (suc n) && s .hasWritten w (suc n)) (conflicts s w u n) (ih (omega (arith, eqb-false c (suc n) e)) r k)
-
-abbrev pub boundsOf : {V : Type 0} → RegisterView V → Bounds
-boundsOf s = record { low = s .low; high = s .high; written = s .written; read = s .read; highest = s .highest }
 
 -- what the tables say of the run
 pub record ViewFacts {V : Type 0} (n : ℕ) (first : ℕ → V) (run : History V) (s : RegisterView V) : Type 0 where
@@ -374,14 +370,15 @@ pub crew-run : {V : Type 0} (top n : ℕ) (first : ℕ → V) (own : ℕ → ℕ
 crew-run top n first own starts = CrewRun.starts (λ w. 0) (λ w. 0)
 crew-run top n first own (goes-on {run = run} {s = s} {w = w} {o = d} g ac) = CrewRun.goes-on (crew-run top n first own g) (crew-moves top n first run s (run-facts top n first own g .view-facts) w d ac)
 
-pub view-opaque : {V : Type 0} (first : ℕ → V) (own : ℕ → ℕ → V) (top n : ℕ) (run : History V) (s : RegisterView V) → 2 ≤ top → ViewRun top n first own run s → (row : List ℕ) × SerializationOrder (byJobs run) row × SeriallyExplained first (byJobs run) row
-view-opaque first own top n run s t g = let k = run-facts top n first own g in bounds-opaque first top run (boundsOf s) t (k .well-made) (k .reads-current) (crew-run top n first own g)
+pub views-opaque : {V : Type 0} (first : ℕ → V) (own : ℕ → ℕ → V) (top n : ℕ) (run : History V) (s : RegisterView V) → 2 ≤ top → ViewRun top n first own run s → Opaque first run
+views-opaque first own top n run s t g = let k = run-facts top n first own g in bounds-opaque first top run (boundsOf s) t (k .well-made) (k .reads-current) (crew-run top n first own g)
 
--- a moment of a run is a run
-moment-run : {V : Type 0} (top n : ℕ) (first : ℕ → V) (own : ℕ → ℕ → V) {run moment : History V} {s : RegisterView V} → Extends run moment → ViewRun top n first own run s → (s′ : RegisterView V) × ViewRun top n first own moment s′
-moment-run top n first own {s = s} here g = (s, g)
-moment-run top n first own (later e) (goes-on g ac) = moment-run top n first own e g
-
-pub views-opaque : {V : Type 0} (first : ℕ → V) (own : ℕ → ℕ → V) (top n : ℕ) (run : History V) (s : RegisterView V) → 2 ≤ top → ViewRun top n first own run s →
-    (moment : History V) → Extends run moment → (row : List ℕ) × SerializationOrder (byJobs moment) row × SeriallyExplained first (byJobs moment) row
-views-opaque first own top n run s t g moment e = let k = moment-run top n first own e g in view-opaque first own top n moment (k .0) t (k .1)
+pub views-agree : {V : Type 0} (first : ℕ → V) (own : ℕ → ℕ → V) (top n : ℕ) (run : History V) (s : RegisterView V) → 2 ≤ top → ViewRun top n first own run s → ViewAgrees top first run s
+views-agree first own top n run s t g = let k = run-facts top n first own g in record {
+  well-made = k .well-made;
+  reads-current = k .reads-current;
+  values-committed = k .view-facts .value-is;
+  jobs-open = k .view-facts .job-is;
+  jobs-counted = k .view-facts .opened-is;
+  tracked = tracked top t (well-formed run (k .well-made)) (bounds-run top (crew-run top n first own g) t (k .well-made));
+}

@@ -6,11 +6,11 @@ use Prim.Native.Nat.{ℕ}
 use lib.Dec.{eqb}
 use Rattle.std.specs.declared.option.Option.{Option}
 use Rattle.std.specs.declared.option.Option.the-variants.{Some, None}
-use Rattle.history.specs.Events.{Operation, History}
+use Rattle.history.specs.Events.{Operation, History, byJobs}
 use Rattle.history.specs.Events.Operation.{opens, reads, writes, commits, abandons}
 use Rattle.history.specs.Projections.{projection, orElse}
 use Rattle.history.specs.Values.{committedValue, observed}
-use Rattle.history.specs.Precedence.{Extends}
+use Rattle.history.specs.Precedence.{Extends, SerializationOrder}
 
 -- the values and, for the job in hand, a held value or none for each cell, and what the job has been told
 pub record SerialState (V : Type 0) : Type 0 where
@@ -41,3 +41,9 @@ executeSerially steps first (x ∷ row) = executeJob (executeSerially steps firs
 pub record SeriallyExplained {V : Type 0} (first : ℕ → V) (h : History V) (row : List ℕ) : Type 0 where
   pub same-observed : (y : ℕ) (earlier : List ℕ) → Extends row (y ∷ earlier) → executeJob (executeSerially (projection h) first earlier) (projection h y) .observed ≡ observed (projection h y)
   pub same-left : (c : ℕ) → executeSerially (projection h) first row c ≡ committedValue first h c
+
+-- Opacity, of a run of crews: at each of its moments there is a serialization order of the jobs, open and abandoned ones too,
+-- and serial execution in that order explains what each of them was told until then.
+abbrev pub Opaque : {V : Type 0} → (ℕ → V) → History V → Type 0
+Opaque {V} first run = (moment : History V) → Extends run moment →
+    (row : List ℕ) × SerializationOrder (byJobs moment) row × SeriallyExplained first (byJobs moment) row

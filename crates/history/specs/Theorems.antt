@@ -5,19 +5,27 @@ use Prim.Native.Nat.{ℕ, _+_, _≤_}
 use Rattle.history.specs.Events.{History, openings, byJobs}
 use Rattle.history.specs.Projections.{WellFormed}
 use Rattle.history.specs.Values.{ReadsCurrent}
-use Rattle.history.specs.Precedence.{Extends, In, Once, Respects, SerializationOrder}
-use Rattle.history.specs.SerialExecution.{SeriallyExplained}
+use Rattle.history.specs.Precedence.{In, Once, Respects, SerializationOrder}
+use Rattle.history.specs.SerialExecution.{SeriallyExplained, Opaque}
 use Rattle.history.specs.WellMade.{WellMade, Calls, callsOf, WellMadeList}
 use Rattle.history.specs.Bounds.{Placed, sortKey, Ascending, Bounds, Tracked, BoundsRun, CrewRun}
-use Rattle.history.specs.Views.{RegisterView, ViewRun}
+use Rattle.history.specs.Views.{RegisterView, ViewRun, ViewAgrees}
 use Rattle.history.specs.Acceptance.{AcceptedAt, position, positions, Chooser, KeepsLaw, scriptChooser, reverseOnto, Sizes, AcceptedWith}
 
 ---- Serial execution explains what a register told
+
+-- a well-made run of crews is a well-formed history of jobs
+abbrev pub WellMadeRunsAreWellFormed : Type 0 → Type 0
+WellMadeRunsAreWellFormed V = (run : History V) → WellMade run → WellFormed (byJobs run)
 
 -- Where every read was current, serial execution in any row that respects the four rules tells each job what it was told
 -- and leaves the values that the cells have.
 abbrev pub RespectfulOrdersExplain : Type 0 → Type 0
 RespectfulOrdersExplain V = (first : ℕ → V) (h : History V) (row : List ℕ) → WellFormed h → ReadsCurrent first h → Respects h row → SeriallyExplained first h row
+
+-- So it does in every serialization order.
+abbrev pub SerializationOrdersExplain : Type 0 → Type 0
+SerializationOrdersExplain V = (first : ℕ → V) (h : History V) (row : List ℕ) → WellFormed h → ReadsCurrent first h → SerializationOrder h row → SeriallyExplained first h row
 
 -- Where places and bounds agree with the four rules, every row of all the jobs that ascends by place, the open ones right above their low,
 -- is a serialization order, however jobs of one place stand.
@@ -30,7 +38,7 @@ abbrev pub PlacesGiveAnOrder : Type 0 → Type 0
 PlacesGiveAnOrder V = (first : ℕ → V) (h : History V) (low high : ℕ → ℕ) → WellFormed h → ReadsCurrent first h → Placed h low high →
     (row : List ℕ) × SerializationOrder h row × Ascending (sortKey h low) row × SeriallyExplained first h row
 
----- Opacity: at every moment there is an order of all jobs, open and abandoned ones too, that explains what each was told
+---- Opacity
 
 -- bounds that every call moves as it should agree with the four rules
 abbrev pub MovedBoundsAgree : Type 0 → Type 0
@@ -38,13 +46,15 @@ MovedBoundsAgree V = (top : ℕ) (h : History V) (b : Bounds) → 2 ≤ top → 
 
 -- so a register whose every call moves the bounds of crews as it should, and whose every read is current, is opaque
 abbrev pub BoundsAreOpaque : Type 0 → Type 0
-BoundsAreOpaque V = (first : ℕ → V) (top : ℕ) (run : History V) (b : Bounds) → 2 ≤ top → WellMade run → ReadsCurrent first (byJobs run) → CrewRun top run b →
-    (row : List ℕ) × SerializationOrder (byJobs run) row × SeriallyExplained first (byJobs run) row
+BoundsAreOpaque V = (first : ℕ → V) (top : ℕ) (run : History V) (b : Bounds) → 2 ≤ top → WellMade run → ReadsCurrent first (byJobs run) → CrewRun top run b → Opaque first run
 
--- whatever calls a register accepts, at each moment of its run there is a serialization order of its jobs that explains what they were told
+-- after whatever calls a register accepts, its tables agree with what happened
+abbrev pub ViewsAgree : Type 0 → Type 0
+ViewsAgree V = (first : ℕ → V) (own : ℕ → ℕ → V) (top n : ℕ) (run : History V) (s : RegisterView V) → 2 ≤ top → ViewRun top n first own run s → ViewAgrees top first run s
+
+-- and whatever calls it accepts, its run is opaque
 abbrev pub ViewsAreOpaque : Type 0 → Type 0
-ViewsAreOpaque V = (first : ℕ → V) (own : ℕ → ℕ → V) (top n : ℕ) (run : History V) (s : RegisterView V) → 2 ≤ top → ViewRun top n first own run s →
-    (moment : History V) → Extends run moment → (row : List ℕ) × SerializationOrder (byJobs moment) row × SeriallyExplained first (byJobs moment) row
+ViewsAreOpaque V = (first : ℕ → V) (own : ℕ → ℕ → V) (top n : ℕ) (run : History V) (s : RegisterView V) → 2 ≤ top → ViewRun top n first own run s → Opaque first run
 
 ---- Permissiveness: what has an order can be accepted
 

@@ -4,9 +4,12 @@ use mathlib.Core.List.{[], _∷_}
 use mathlib.Core.Bool.{Bool, true, false, cond, _&&_, _||_}
 use Prim.Native.Nat.{ℕ, zero, suc, _+_, _≤_, _<_, min, max}
 use lib.Dec.{eqb}
-use Rattle.history.specs.Events.{Operation, History}
+use Rattle.history.specs.Events.{Operation, History, openings, openJob, byJobs}
 use Rattle.history.specs.Events.Operation.{opens, reads, writes, commits, abandons}
 use Rattle.history.specs.Events.Event.{by}
+use Rattle.history.specs.Values.{committedValue, ReadsCurrent}
+use Rattle.history.specs.WellMade.{WellMade}
+use Rattle.history.specs.Bounds.{Bounds, Tracked, boundsByJob}
 
 pub record RegisterView (V : Type 0) : Type 0 where
   -- by cell: the committed value, the highest place of a job that committed it, the highest of an ended job that read it first-hand
@@ -145,3 +148,18 @@ viewAfter top n s w (abandons p) = closed s w p
 pub data ViewRun {V : Type 0} (top n : ℕ) (first : ℕ → V) (own : ℕ → ℕ → V) : History V → RegisterView V → Type 0 where
   starts : ViewRun top n first own [] (freshView first own)
   goes-on : {run : History V} {s : RegisterView V} {w : ℕ} {o : Operation V V ℕ} → ViewRun top n first own run s → Accepts top n s w o → ViewRun top n first own (by w o ∷ run) (viewAfter top n s w o)
+
+---- What a view says of its run
+
+abbrev pub boundsOf : {V : Type 0} → RegisterView V → Bounds
+boundsOf s = record { low = s .low; high = s .high; written = s .written; read = s .read; highest = s .highest }
+
+-- the calls are well made, every read was current, the values are the committed ones, the jobs are those that the crews have open,
+-- and bounds and places agree with the four rules
+pub record ViewAgrees {V : Type 0} (top : ℕ) (first : ℕ → V) (run : History V) (s : RegisterView V) : Type 0 where
+  pub well-made : WellMade run
+  pub reads-current : ReadsCurrent first (byJobs run)
+  pub values-committed : (c : ℕ) → s .value c ≡ committedValue first (byJobs run) c
+  pub jobs-open : (w : ℕ) → s .job w ≡ openJob run w
+  pub jobs-counted : s .opened ≡ openings run
+  pub tracked : Tracked (byJobs run) (boundsByJob top run (boundsOf s))

@@ -1,10 +1,23 @@
 // Histories of a register's calls, and the theorems about them. The functions return nothing of use: each has a theorem for its contract.
-ghost use Rattle.history.specs.Theorems.{RespectfulOrdersExplain, AscendingRowsAreOrders, PlacesGiveAnOrder, MovedBoundsAgree, BoundsAreOpaque, ViewsAreOpaque};
+ghost use Rattle.history.specs.Theorems.{WellMadeRunsAreWellFormed, RespectfulOrdersExplain, SerializationOrdersExplain, AscendingRowsAreOrders, PlacesGiveAnOrder};
+ghost use Rattle.history.specs.Theorems.{MovedBoundsAgree, BoundsAreOpaque, ViewsAgree, ViewsAreOpaque};
 ghost use Rattle.history.specs.Theorems.{AnswersDoNotMatter, ViewsArePermissive, PositionsAreAccepted, ScriptsKeepTheLaw, ScriptsArePermissive, PositionsMakeAScript, ChosenPlacesGiveAnOrder};
 ghost use Rattle.history.specs.Examples.{CrossedReadsHaveNoOrder, OvertakingHasAnOrder, ReadSkewIsNotExplained};
 
+pub fn well_made_runs_are_well_formed<V>() -> u8
+    ensures { λ _. ⌜ WellMadeRunsAreWellFormed V ⌝ }
+{
+    0
+}
+
 pub fn respectful_orders_explain<V>() -> u8
     ensures { λ _. ⌜ RespectfulOrdersExplain V ⌝ }
+{
+    0
+}
+
+pub fn serialization_orders_explain<V>() -> u8
+    ensures { λ _. ⌜ SerializationOrdersExplain V ⌝ }
 {
     0
 }
@@ -29,6 +42,12 @@ pub fn moved_bounds_agree<V>() -> u8
 
 pub fn bounds_are_opaque<V>() -> u8
     ensures { λ _. ⌜ BoundsAreOpaque V ⌝ }
+{
+    0
+}
+
+pub fn views_agree<V>() -> u8
+    ensures { λ _. ⌜ ViewsAgree V ⌝ }
 {
     0
 }
