@@ -1,0 +1,163 @@
+-- The four rules look at the calls alone: acts that differ only in answers have the same precedence.
+use mathlib.Core.Path.{_≡_, refl, ap, ap₂, subst}
+use mathlib.Core.List.{List, [], _∷_}
+use mathlib.Core.Bool.{cond}
+use mathlib.Core.Logic.{_⊎_, inl, inr, _↔_}
+use Prim.Native.Nat.{ℕ, suc}
+use lib.Dec.{eqb}
+use Rattle.history.specs.Events.{Operation, Events, History, openings, openJob, byJobs}
+use Rattle.history.specs.Events.Operation.{opens, reads, writes, commits, abandons}
+use Rattle.history.specs.Events.Event.{by}
+use Rattle.history.specs.Precedence.{Extends, Occurs, Wrote, ReadGlobally, CommittedCell, Ended, Precedes, SerializationOrder}
+use Rattle.history.specs.Precedence.Extends.{here, later}
+use Rattle.history.specs.Precedence.Precedes.{real-time, committed-read, read-committed, committed-committed}
+use Rattle.history.specs.WellMade.{callsOf, InRange}
+
+-- the same call
+pub data SameCall {V R P S Q : Type 0} : Operation V R P → Operation V S Q → Type 0 where
+  open-open : SameCall opens opens
+  read-read : {c : ℕ} {r : R} {s : S} → SameCall (reads c r) (reads c s)
+  write-write : {c : ℕ} {v : V} → SameCall (writes c v) (writes c v)
+  commit-commit : {p : P} {q : Q} → SameCall (commits p) (commits q)
+  abandon-abandon : {p : P} {q : Q} → SameCall (abandons p) (abandons q)
+
+-- the same calls, by the same
+pub data Alike {V R P S Q : Type 0} : Events V R P → Events V S Q → Type 0 where
+  none : Alike [] []
+  more : {x : ℕ} {d : Operation V R P} {e : Operation V S Q} {h : Events V R P} {g : Events V S Q} → SameCall d e → Alike h g → Alike (by x d ∷ h) (by x e ∷ g)
+
+same-sym : {V R P S Q : Type 0} {d : Operation V R P} {e : Operation V S Q} → SameCall d e → SameCall e d
+same-sym open-open = open-open
+same-sym read-read = read-read
+same-sym write-write = write-write
+same-sym commit-commit = commit-commit
+same-sym abandon-abandon = abandon-abandon
+
+pub alike-sym : {V R P S Q : Type 0} {h : Events V R P} {g : Events V S Q} → Alike h g → Alike g h
+alike-sym none = none
+alike-sym (more m a) = more (same-sym m) (alike-sym a)
+
+-- a moment of the one is a moment of the other
+moment : {V R P S Q : Type 0} {h k : Events V R P} {g : Events V S Q} → Extends h k → Alike h g → (l : Events V S Q) × Extends g l × Alike k l
+moment {g = g} here a = (g, here, a)
+moment (later s) (more m a) = let k = moment s a in (k .0, later (k .1), k .2)
+
+module _ {V R P S Q : Type 0} where
+  -- what x did in h, as done in g
+  abbrev Doing : Operation V R P → Events V R P → Events V S Q → ℕ → Type 0
+  Doing d k g x = (e : Operation V S Q) × (l : Events V S Q) × Extends g (by x e ∷ l) × SameCall d e × Alike k l
+
+  occurs-apart : {x : ℕ} {d : Operation V R P} {k : Events V R P} {g l : Events V S Q} → Extends g l → Alike (by x d ∷ k) l → Doing d k g x
+  occurs-apart s (more {e = e} {g = l} m a) = (e, l, s, m, a)
+
+  doing : {x : ℕ} {d : Operation V R P} {h k : Events V R P} {g : Events V S Q} → Extends h (by x d ∷ k) → Alike h g → Doing d k g x
+  doing s a = let k = moment s a in occurs-apart (k .1) (k .2)
+
+  open-alike : {x : ℕ} {h k : Events V R P} {g : Events V S Q} → Occurs h x opens k → Alike h g → (l : Events V S Q) × Occurs g x opens l × Alike k l
+  open-alike {x = x} {k = k} {g = g} s a = go (doing s a)
+    where
+      go : Doing opens k g x → (l : Events V S Q) × Occurs g x opens l × Alike k l
+      go (_, l, s, open-open, a) = (l, s, a)
+
+  occurs-read-alike : {x c : ℕ} {r : R} {h k : Events V R P} {g : Events V S Q} → Occurs h x (reads c r) k → Alike h g → (s : S) × (l : Events V S Q) × Occurs g x (reads c s) l × Alike k l
+  occurs-read-alike {x = x} {c = c} {r = r} {k = k} {g = g} s a = go (doing s a)
+    where
+      go : Doing (reads c r) k g x → (s : S) × (l : Events V S Q) × Occurs g x (reads c s) l × Alike k l
+      go (_, l, s, read-read {s = t}, a) = (t, l, s, a)
+
+  occurs-write-alike : {x c : ℕ} {v : V} {h k : Events V R P} {g : Events V S Q} → Occurs h x (writes c v) k → Alike h g → (l : Events V S Q) × Occurs g x (writes c v) l × Alike k l
+  occurs-write-alike {x = x} {c = c} {v = v} {k = k} {g = g} s a = go (doing s a)
+    where
+      go : Doing (writes c v) k g x → (l : Events V S Q) × Occurs g x (writes c v) l × Alike k l
+      go (_, l, s, write-write, a) = (l, s, a)
+
+  occurs-commit-alike : {x : ℕ} {p : P} {h k : Events V R P} {g : Events V S Q} → Occurs h x (commits p) k → Alike h g → (q : Q) × (l : Events V S Q) × Occurs g x (commits q) l × Alike k l
+  occurs-commit-alike {x = x} {p = p} {k = k} {g = g} s a = go (doing s a)
+    where
+      go : Doing (commits p) k g x → (q : Q) × (l : Events V S Q) × Occurs g x (commits q) l × Alike k l
+      go (_, l, s, commit-commit {q = q}, a) = (q, l, s, a)
+
+  occurs-abandon-alike : {x : ℕ} {p : P} {h k : Events V R P} {g : Events V S Q} → Occurs h x (abandons p) k → Alike h g → (q : Q) × (l : Events V S Q) × Occurs g x (abandons q) l × Alike k l
+  occurs-abandon-alike {x = x} {p = p} {k = k} {g = g} s a = go (doing s a)
+    where
+      go : Doing (abandons p) k g x → (q : Q) × (l : Events V S Q) × Occurs g x (abandons q) l × Alike k l
+      go (_, l, s, abandon-abandon {q = q}, a) = (q, l, s, a)
+
+  wrote-alike : {h : Events V R P} {g : Events V S Q} {x c : ℕ} → Alike h g → Wrote h x c → Wrote g x c
+  wrote-alike a w = let k = occurs-write-alike (w .occurs) a in record { value = w .value; before = k .0; occurs = k .1 }
+
+  committed-alike : {h : Events V R P} {g : Events V S Q} {x c : ℕ} → Alike h g → CommittedCell h x c → CommittedCell g x c
+  committed-alike a w = let k = occurs-commit-alike (w .occurs) a in record { place = k .0; before = k .1; occurs = k .2; wrote = wrote-alike (k .3) (w .wrote) }
+
+  ended-alike : {h : Events V R P} {g : Events V S Q} {x : ℕ} → Alike h g → Ended h x → Ended g x
+  ended-alike {h = h} {g = g} {x = x} a w = go (w .occurs)
+    where
+      go : Occurs h x (commits (w .place)) (w .before) ⊎ Occurs h x (abandons (w .place)) (w .before) → Ended g x
+      go (inl s) = let k = occurs-commit-alike s a in record { place = k .0; before = k .1; occurs = inl (k .2) }
+      go (inr s) = let k = occurs-abandon-alike s a in record { place = k .0; before = k .1; occurs = inr (k .2) }
+
+module _ {V R P S Q : Type 0} where
+  read-alike : {h : Events V R P} {g : Events V S Q} {x c : ℕ} → Alike h g → ReadGlobally h x c → ReadGlobally g x c
+  read-alike a w = let k = occurs-read-alike (w .occurs) a in record { value = k .0; before = k .1; occurs = k .2; unwritten = λ u. w .unwritten (wrote-alike (alike-sym (k .3)) u) }
+
+  pub precedes-alike : {h : Events V R P} {g : Events V S Q} {x y : ℕ} → Alike h g → Precedes h x y → Precedes g x y
+  precedes-alike a (real-time s e) = let k = open-alike s a in real-time (k .1) (ended-alike (k .2) e)
+  precedes-alike a (committed-read s n e) = let k = occurs-read-alike s a in committed-read (k .2) (λ u. n (wrote-alike (alike-sym (k .3)) u)) (committed-alike (k .3) e)
+  precedes-alike a (read-committed s w e) = let k = occurs-commit-alike s a in read-committed (k .2) (wrote-alike (k .3) w) (read-alike (k .3) e)
+  precedes-alike a (committed-committed s w e) = let k = occurs-commit-alike s a in committed-committed (k .2) (wrote-alike (k .3) w) (committed-alike (k .3) e)
+
+  -- what else looks at the calls alone
+  pub openings-alike : {h : Events V R P} {g : Events V S Q} → Alike h g → openings h ≡ openings g
+  openings-alike none = refl
+  openings-alike (more open-open a) = ap suc (openings-alike a)
+  openings-alike (more read-read a) = openings-alike a
+  openings-alike (more write-write a) = openings-alike a
+  openings-alike (more commit-commit a) = openings-alike a
+  openings-alike (more abandon-abandon a) = openings-alike a
+
+  pub job-alike : {h : Events V R P} {g : Events V S Q} → Alike h g → (w : ℕ) → openJob h w ≡ openJob g w
+  job-alike none w = refl
+  job-alike (more {x = u} open-open a) w = ap₂ (cond (eqb u w)) (ap suc (openings-alike a)) (job-alike a w)
+  job-alike (more read-read a) w = job-alike a w
+  job-alike (more write-write a) w = job-alike a w
+  job-alike (more {x = u} commit-commit a) w = ap (cond (eqb u w) 0) (job-alike a w)
+  job-alike (more {x = u} abandon-abandon a) w = ap (cond (eqb u w) 0) (job-alike a w)
+
+  pub range-alike : (n m : ℕ) {h : Events V R P} {g : Events V S Q} → Alike h g → InRange n m h → InRange n m g
+  range-alike n m none r = tt
+  range-alike n m (more open-open a) r = (r .0, r .1, range-alike n m a (r .2))
+  range-alike n m (more read-read a) r = (r .0, r .1, range-alike n m a (r .2))
+  range-alike n m (more write-write a) r = (r .0, r .1, range-alike n m a (r .2))
+  range-alike n m (more commit-commit a) r = (r .0, r .1, range-alike n m a (r .2))
+  range-alike n m (more abandon-abandon a) r = (r .0, r .1, range-alike n m a (r .2))
+
+  more-at : (x y : ℕ) {d : Operation V R P} {e : Operation V S Q} {h : Events V R P} {g : Events V S Q} → x ≡ y → SameCall d e → Alike h g → Alike (by x d ∷ h) (by y e ∷ g)
+  more-at x y {d = d} {e = e} {h = h} {g = g} q m a = subst (λ z. Alike (by x d ∷ h) (by z e ∷ g)) q (more m a)
+
+  pub by-jobs-alike : {h : Events V R P} {g : Events V S Q} → Alike h g → Alike (byJobs h) (byJobs g)
+  by-jobs-alike none = none
+  by-jobs-alike (more {h = h} {g = g} open-open a) = more-at (suc (openings h)) (suc (openings g)) (ap suc (openings-alike a)) open-open (by-jobs-alike a)
+  by-jobs-alike (more {x = x} {h = h} {g = g} read-read a) = more-at (openJob h x) (openJob g x) (job-alike a x) read-read (by-jobs-alike a)
+  by-jobs-alike (more {x = x} {h = h} {g = g} write-write a) = more-at (openJob h x) (openJob g x) (job-alike a x) write-write (by-jobs-alike a)
+  by-jobs-alike (more {x = x} {h = h} {g = g} commit-commit a) = more-at (openJob h x) (openJob g x) (job-alike a x) commit-commit (by-jobs-alike a)
+  by-jobs-alike (more {x = x} {h = h} {g = g} abandon-abandon a) = more-at (openJob h x) (openJob g x) (job-alike a x) abandon-abandon (by-jobs-alike a)
+
+module _ {V R P S Q : Type 0} where
+  pub order-alike : {h : Events V R P} {g : Events V S Q} {row : List ℕ} → Alike h g → SerializationOrder h row → SerializationOrder g row
+  order-alike a l = record {
+    once = l .once;
+    all = λ x p q. l .all x p (rw (openings-alike a) q);
+    only = λ x i. let k = l .only x i in (k .0, rw (← openings-alike a) (k .1));
+    rules = λ x y i j n b. l .rules x y i j n (precedes-alike (alike-sym a) b);
+  }
+
+pub calls-alike : {V : Type 0} (run : History V) → Alike run (callsOf run)
+calls-alike [] = none
+calls-alike (by w opens ∷ run) = more open-open (calls-alike run)
+calls-alike (by w (reads c v) ∷ run) = more read-read (calls-alike run)
+calls-alike (by w (writes c v) ∷ run) = more write-write (calls-alike run)
+calls-alike (by w (commits p) ∷ run) = more commit-commit (calls-alike run)
+calls-alike (by w (abandons p) ∷ run) = more abandon-abandon (calls-alike run)
+
+pub answers-aside : {V : Type 0} (run : History V) (row : List ℕ) → SerializationOrder (byJobs run) row ↔ SerializationOrder (byJobs (callsOf run)) row
+answers-aside run row = let a = by-jobs-alike (calls-alike run) in ((λ l. order-alike a l), (λ l. order-alike (alike-sym a) l))

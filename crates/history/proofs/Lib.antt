@@ -1,0 +1,16 @@
+pub mod ShortForm
+pub mod Rows
+pub mod Moments
+pub mod Explaining
+pub mod Serially
+pub mod Ordering
+pub mod Tracking
+pub mod Crews
+pub mod Opacity
+pub mod Viewing
+pub mod Alike
+pub mod Positions
+pub mod Accepting
+pub mod Permissiveness
+pub mod Choosing
+pub mod Examples
