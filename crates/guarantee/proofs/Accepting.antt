@@ -1,0 +1,337 @@
+-- Where the view accepts a call, the register accepts it, and goes on abreast of the view.
+use mathlib.Core.Path.{_≡_, refl, sym, ap, ap₂, subst, subst₂, _∙_}
+use mathlib.Core.Bool.{Bool, true, false, cond, not, _&&_, _||_}
+use mathlib.Core.List.{List, [], _∷_}
+use Prim.Native.Nat.{ℕ, suc, _+_, _-_, _*_, _≤_}
+use native.Mathlib.Omega.{arith}
+use lib.Dec.{eqb, ltb}
+use lib.ListN.{length}
+use Rattle.std.proofs.shelf.Lists.{length-set}
+use Rattle.std.proofs.shelf.Tests.{eq-eqb, ne-eqb, le-ltb, or-from, not-from-true, ltb-true, cond-both}
+use Rattle.std.specs.declared.option.Option.{Option}
+use Rattle.std.specs.declared.option.Option.the-variants.{Some, None}
+use Rattle.std.specs.declared.result.Result.{Result}
+use Rattle.std.specs.declared.result.Result.the-variants.{Ok, Err}
+use Rattle.terms.specs.declared.numbers.CellNumber.{CellNumber}
+use Rattle.terms.specs.declared.numbers.CrewNumber.{CrewNumber}
+use Rattle.terms.specs.declared.records.Entry.{Entry}
+use Rattle.terms.specs.declared.refusals.Refusal.{Refusal}
+use Rattle.terms.specs.declared.refusals.Refusal.the-variants.{NoPlace}
+use Rattle.choosers.specs.Meaning.{Meaning}
+use Rattle.choosers.specs.Script.{scriptMeaning}
+use Rattle.history.specs.Acceptance.{AcceptsWith, AtWork, Sizes, chooserAfter, commitLowerBound, scriptChooser}
+use Rattle.history.specs.Events.{Operation}
+use Rattle.history.specs.Events.Operation.{abandons, commits, opens, reads, writes}
+use Rattle.history.specs.Views.{RegisterView, updated, viewAfter}
+use Rattle.history.specs.WellMade.{UpTo}
+use Rattle.history.proofs.Alike.{SameCall}
+use Rattle.history.proofs.Alike.SameCall.{abandon-abandon, commit-commit, open-open, read-read, write-write}
+use Rattle.rules.specs.Contents.{Fits}
+use Rattle.rules.specs.JobCalls.{Outcome, abandonOutcome, abandonedAt, accepted, commitLow, committedAt, crewOf, damaged, isOpening, openOutcome, outcome, raisedLow, readCell, readOwn, refused, testsOf, writeOutcome, wrongCell}
+use Rattle.rules.specs.Limits.{top}
+use Rattle.rules.specs.Performing.{Entered, Performs, movedIf, withBook}
+use Rattle.rules.specs.Refusing.{firstRefusal, ifRefused}
+use Rattle.rules.specs.Registers.{Register, hasJob, hasWritten, highOf, jobNumber, lowOf, recordOf}
+use Rattle.rules.specs.Tables.{outside}
+use Rattle.rules.specs.declared.calls.Answer.{Answer}
+use Rattle.rules.specs.declared.calls.Answer.the-variants.{Ended}
+use Rattle.rules.specs.declared.calls.Call.{Call}
+use Rattle.rules.specs.declared.calls.Call.the-variants.{Abandon, Commit, Open, Read, Write}
+use Rattle.rules.proofs.Changing.{length-each}
+use Rattle.guarantee.specs.Histories.{operation}
+use Rattle.guarantee.specs.Permissiveness.{IsAccepted}
+use Rattle.guarantee.proofs.Bounding.{commit-low-floor}
+use Rattle.guarantee.proofs.Counting.{busy, busy-at, busy-put, length-cleared, one-no, one-yes}
+use Rattle.guarantee.proofs.Invariant.{tie-book}
+use Rattle.guarantee.proofs.Scripts.{gives-same, next-same}
+use Rattle.guarantee.proofs.Tied.{None-of, Sized, Tie, Tied, Working, of-open, tie-abandon, tie-cell, tie-commit, tie-open, tie-own, tie-write, tied-by-job}
+
+abbrev pub sizes-of : {V : Type 0} → Register V → Sizes
+sizes-of s = record { top = top; cells = s .head .sizes .cells; crews = s .head .sizes .crews; entries = s .head .sizes .entries }
+
+-- the register r, with a chooser that means f, against a view and what is left of the script
+pub record Abreast {V : Type 0} (d : V) (z : Sizes) (view : RegisterView V) (xs : List ℕ) (r : Register V) (f : Meaning) : Type 0 where
+  pub tie : Tie d r view
+  pub fits : Fits (r .head .sizes) (r .tables)
+  pub n-is : r .head .sizes .cells ≡ z .cells
+  pub m-is : r .head .sizes .crews ≡ z .crews
+  pub b-is : r .head .sizes .entries ≡ z .entries
+  pub active-is : r .head .active ≡ busy (view .job) (r .head .sizes .crews)
+  pub means : f ≡ scriptMeaning xs
+
+none-refused : (ts : List (Bool × Refusal)) → None-of ts → firstRefusal ts ≡ None
+none-refused [] ns = refl
+none-refused (t ∷ ts) ns = rw (ns .0) (none-refused ts (ns .1))
+
+within : (n k : ℕ) → 1 ≤ k → k ≤ n → outside n k ≡ false
+within n k a b = or-from (eqb k 0) (ltb n k) (ne-eqb k 0 (λ e. omega arith)) (le-ltb n k b)
+
+same-size : (a b : ℕ) → a ≡ b → not (eqb a b) ≡ false
+same-size a b e = not-from-true (eqb a b) (eq-eqb a b e)
+
+closed-job : (b : Bool) (j : _) (x l h : ℕ) → Tied b j x l h → x ≡ 0 → b ≡ false
+closed-job true j x l h t e = absurd (omega (arith, t .1))
+closed-job false j x l h t e = refl
+
+module _ {V : Type 0} (d : V) (q : Register V) (view : RegisterView V) (xs : List ℕ) (r : Register V) (f : Meaning) (ab : Abreast d (sizes-of q) view xs r f) where
+  abbrev z : Sizes
+  z = sizes-of q
+
+  -- what follows from an outcome
+  abbrev Done : Outcome V → RegisterView V → List ℕ → Type 0
+  Done o view′ ys = (bk : List Entry) → Entered (r .head .ended) (o .entry) (r .tables .book) bk → IsAccepted (o .answer) × Abreast d z view′ ys (withBook (o .left) bk) (movedIf f (o .asked))
+
+  passes : (k : Call V) → outside (r .head .sizes .crews) (crewOf k) ≡ false → wrongCell (r .head .sizes .cells) k ≡ false → (isOpening k && hasJob r (crewOf k)) ≡ false → (not (isOpening k) && not (hasJob r (crewOf k))) ≡ false → (not (isOpening k) && damaged r (crewOf k)) ≡ false →
+      (isOpening k && ltb top (r .head .highest + 2)) ≡ false → (isOpening k && eqb (r .head .ended + r .head .active) (r .head .sizes .entries)) ≡ false → outcome d (f []) r k ≡ accepted d (f []) r k
+  passes k a b c e g h i = ap (λ (o : Option Refusal). ifRefused o (λ e. refused e r) (accepted d (f []) r k)) (none-refused (testsOf r k) (
+    same-size _ _ (ab .fits .values),
+    (
+      same-size _ _ (ab .fits .written),
+      (
+        same-size _ _ (ab .fits .read),
+        (
+          same-size _ _ (ab .fits .jobs),
+          (
+            same-size _ _ (ab .fits .own),
+            (
+              same-size _ _ (ab .fits .flags),
+              (
+                same-size _ _ (ab .fits .book),
+                (a, (b, (c, (e, (g, (h, (i, tt))))))),
+              ),
+            ),
+          ),
+        ),
+      ),
+    ),
+  ))
+
+  sized : (w : ℕ) → UpTo (z .crews) w → Sized r w
+  sized w u = record {
+    fits = ab .fits;
+    from-one = u .0;
+    to-m = rw (ab .m-is) (u .1);
+  }
+
+  working : (w : ℕ) → AtWork z view w → Working r w
+  working w k =
+      let s = sized w (k .a-crew) in
+      let t = ab .tie .job-is w (s .from-one) (s .to-m) in
+      let h = tied-by-job (hasJob r w) (recordOf r w) (view .job w) (view .low w) (view .high w) t (k .a-job) in
+      let o = of-open d r view (ab .tie) w s h in
+      record { has = h; room = omega (arith, o .2, o .3, k .room); under-top = omega (arith, o .3, k .below-top); counted = rw (ab .active-is) (busy-at (view .job) w (r .head .sizes .crews) (s .from-one) (s .to-m) (k .a-job)) }
+
+  undamaged : (w : ℕ) → Working r w → damaged r w ≡ false
+  undamaged w k = or-from (ltb (highOf r w) (lowOf r w + 2)) (ltb top (highOf r w) || eqb (r .head .active) 0) (le-ltb (highOf r w) (lowOf r w + 2) (k .room))
+      (or-from (ltb top (highOf r w)) (eqb (r .head .active) 0) (le-ltb top (highOf r w) (k .under-top)) (ne-eqb (r .head .active) 0 (λ e. omega (arith, k .counted))))
+
+  -- a call of an open job passes the tests
+  passes-work : (k : Call V) → isOpening k ≡ false → wrongCell (r .head .sizes .cells) k ≡ false → AtWork z view (crewOf k) → outcome d (f []) r k ≡ accepted d (f []) r k
+  passes-work k o c a =
+      let s = sized (crewOf k) (a .a-crew) in
+      let wk = working (crewOf k) a in
+      passes k (within (r .head .sizes .crews) (crewOf k) (s .from-one) (s .to-m)) c (rw o refl) (rw (o, wk .has) refl) (rw (o, undamaged (crewOf k) wk) refl) (rw o refl) (rw o refl)
+
+  tied : (left : Register V) (w : ℕ) (e : Operation V V ℕ) → Tie d left (viewAfter top (r .head .sizes .cells) view w e) → Tie d left (viewAfter top (z .cells) view w e)
+  tied left w e t = subst (λ (n : ℕ). Tie d left (viewAfter top n view w e)) (ab .n-is) t
+
+  ---- open
+
+  done-open : (w : ℕ) → UpTo (z .crews) w → view .job w ≡ 0 → Done (openOutcome r w) (viewAfter top (z .cells) view w opens) xs
+  done-open w u j bk b = (
+    tt,
+    record {
+      tie = tie-book d (openOutcome r w .left) bk _ (tied (openOutcome r w .left) w opens (tie-open d r view (ab .tie) w (sized w u)));
+      fits = record { values = ab .fits .values; written = ab .fits .written; read = ab .fits .read; jobs = length-set (r .tables .jobs) (w - 1) _ ∙ ab .fits .jobs; own = ab .fits .own; flags = ab .fits .flags; book = ap length b ∙ ab .fits .book };
+      n-is = ab .n-is;
+      m-is = ab .m-is;
+      b-is = ab .b-is;
+      active-is = omega (arith, busy-put (view .job) w (suc (view .opened)) (r .head .sizes .crews) (u .0) (rw (ab .m-is) (u .1)), one-no (view .job w) j, one-yes (suc (view .opened)) (omega arith), ab .active-is);
+      means = ab .means;
+    },
+  )
+
+  step-open : (w : CrewNumber) → AcceptsWith scriptChooser z xs view (w .0) opens → Done (outcome d (f []) r (Open w)) (viewAfter top (z .cells) view (w .0) opens) xs
+  step-open w sv =
+      let s = sized (w .0) (sv .0) in
+      let h = closed-job (hasJob r (w .0)) (recordOf r (w .0)) (view .job (w .0)) (view .low (w .0)) (view .high (w .0)) (ab .tie .job-is (w .0) (s .from-one) (s .to-m)) (sv .1) in
+      subst (λ (o : Outcome V). Done o (viewAfter top (z .cells) view (w .0) opens) xs)
+      (sym (passes (Open w) (within (r .head .sizes .crews) (w .0) (s .from-one) (s .to-m)) refl h refl refl (le-ltb top (r .head .highest + 2) (omega (arith, ab .tie .highest-is, sv .2))) (ne-eqb (r .head .ended + r .head .active) (r .head .sizes .entries) (λ e. omega (arith, ab .tie .opened-is, ab .b-is, sv .3)))))
+      (done-open (w .0) (sv .0) (sv .1))
+
+  ---- read
+
+  done-own : (w c : ℕ) (v : V) → UpTo (z .crews) w → 1 ≤ c → c ≤ r .head .sizes .cells → hasWritten r w c ≡ true → Done (readOwn d r w c) (viewAfter top (z .cells) view w (reads c v)) xs
+  done-own w c v u a b e bk q = (
+    tt,
+    record {
+      tie = tie-book d r bk _ (tied r w (reads c v) (tie-own d r view (ab .tie) w (sized w u) c v a b e));
+      fits = record { values = ab .fits .values; written = ab .fits .written; read = ab .fits .read; jobs = ab .fits .jobs; own = ab .fits .own; flags = ab .fits .flags; book = ap length q ∙ ab .fits .book };
+      n-is = ab .n-is;
+      m-is = ab .m-is;
+      b-is = ab .b-is;
+      active-is = ab .active-is;
+      means = ab .means;
+    },
+  )
+
+  done-cell : (w c : ℕ) (v : V) → UpTo (z .crews) w → Working r w → 1 ≤ c → c ≤ r .head .sizes .cells → hasWritten r w c ≡ false → Done (readCell d r w c) (viewAfter top (z .cells) view w (reads c v)) xs
+  done-cell w c v u wk a b e bk q = (
+    tt,
+    record {
+      tie = tie-book d (readCell d r w c .left) bk _ (tied (readCell d r w c .left) w (reads c v) (tie-cell d r view (ab .tie) w (sized w u) c v wk a b e));
+      fits = record { values = ab .fits .values; written = ab .fits .written; read = ab .fits .read; jobs = length-set (r .tables .jobs) (w - 1) _ ∙ ab .fits .jobs; own = ab .fits .own; flags = length-set (r .tables .flags) _ _ ∙ ab .fits .flags; book = ap length q ∙ ab .fits .book };
+      n-is = ab .n-is;
+      m-is = ab .m-is;
+      b-is = ab .b-is;
+      active-is = ab .active-is;
+      means = ab .means;
+    },
+  )
+
+  step-read : (w : CrewNumber) (c : CellNumber) (v : V) → AcceptsWith scriptChooser z xs view (w .0) (reads (c .0) v) → Done (outcome d (f []) r (Read w c)) (viewAfter top (z .cells) view (w .0) (reads (c .0) v)) xs
+  step-read w c v sv = subst G (sym (passes-work (Read w c) refl (within (r .head .sizes .cells) (c .0) (sv .1 .0) in-n) (sv .0)))
+      (cond-both (hasWritten r (w .0) (c .0)) _ _ G
+      (λ e. done-own (w .0) (c .0) v (sv .0 .a-crew) (sv .1 .0) in-n e)
+      (λ e. cond-both (ltb (highOf r (w .0)) (raisedLow r (w .0) (c .0) + 2)) _ _ G
+      (λ l. absurd (omega (arith, ltb-true (highOf r (w .0)) (raisedLow r (w .0) (c .0) + 2) l, sv .3 (sym (ab .tie .writes-are (w .0) (c .0) (s .from-one) (s .to-m) (sv .1 .0) in-n) ∙ e), o .2, o .3, ab .tie .written-is (c .0) (sv .1 .0) in-n)))
+      (λ l. done-cell (w .0) (c .0) v (sv .0 .a-crew) wk (sv .1 .0) in-n e)))
+    where
+      G : Outcome V → Type 0
+      G = λ o. Done o (viewAfter top (z .cells) view (w .0) (reads (c .0) v)) xs
+
+      in-n : c .0 ≤ r .head .sizes .cells
+      in-n = rw (ab .n-is) (sv .1 .1)
+
+      s : Sized r (w .0)
+      s = sized (w .0) (sv .0 .a-crew)
+
+      wk : Working r (w .0)
+      wk = working (w .0) (sv .0)
+
+      o : (view .job (w .0) ≡ jobNumber r (w .0)) × (1 ≤ view .job (w .0)) × (view .low (w .0) ≡ lowOf r (w .0)) × (view .high (w .0) ≡ highOf r (w .0))
+      o = of-open d r view (ab .tie) (w .0) s (wk .has)
+
+  ---- write
+
+  done-write : (w c : ℕ) (v : V) → UpTo (z .crews) w → 1 ≤ c → c ≤ r .head .sizes .cells → Done (writeOutcome r w c v) (viewAfter top (z .cells) view w (writes c v)) xs
+  done-write w c v u a b bk q = (
+    tt,
+    record {
+      tie = tie-book d (writeOutcome r w c v .left) bk _ (tied (writeOutcome r w c v .left) w (writes c v) (tie-write d r view (ab .tie) w (sized w u) c v a b));
+      fits = record { values = ab .fits .values; written = ab .fits .written; read = ab .fits .read; jobs = ab .fits .jobs; own = length-set (r .tables .own) _ _ ∙ ab .fits .own; flags = length-set (r .tables .flags) _ _ ∙ ab .fits .flags; book = ap length q ∙ ab .fits .book };
+      n-is = ab .n-is;
+      m-is = ab .m-is;
+      b-is = ab .b-is;
+      active-is = ab .active-is;
+      means = ab .means;
+    },
+  )
+
+  step-write : (w : CrewNumber) (c : CellNumber) (v : V) → AcceptsWith scriptChooser z xs view (w .0) (writes (c .0) v) → Done (outcome d (f []) r (Write w c v)) (viewAfter top (z .cells) view (w .0) (writes (c .0) v)) xs
+  step-write w c v sv =
+      let in-n : c .0 ≤ r .head .sizes .cells = rw (ab .n-is) (sv .1 .1) in
+      subst (λ (o : Outcome V). Done o (viewAfter top (z .cells) view (w .0) (writes (c .0) v)) xs) (sym (passes-work (Write w c v) refl (within (r .head .sizes .cells) (c .0) (sv .1 .0) in-n) (sv .0)))
+      (done-write (w .0) (c .0) v (sv .0 .a-crew) (sv .1 .0) in-n)
+
+  ---- endings
+
+  ended-active : (w : ℕ) → AtWork z view w → r .head .active - 1 ≡ busy (updated (view .job) w 0) (r .head .sizes .crews)
+  ended-active w k = let s = sized w (k .a-crew) in omega (arith, busy-put (view .job) w 0 (r .head .sizes .crews) (s .from-one) (s .to-m), one-yes (view .job w) (k .a-job), one-no 0 refl, ab .active-is)
+
+  moved-means : (lo hi : ℕ) → movedIf f (Some (lo, hi)) ≡ scriptMeaning (scriptChooser .next xs lo hi)
+  moved-means lo hi = ap (λ (g : Meaning). movedIf g (Some (lo, hi))) (ab .means) ∙ ap scriptMeaning (next-same xs lo hi)
+
+  picks : (lo hi : ℕ) → f [] lo hi ≡ scriptChooser .gives xs lo hi
+  picks lo hi = ap (λ (g : Meaning). g [] lo hi) (ab .means) ∙ gives-same xs lo hi
+
+  done-abandon : (w p : ℕ) → AtWork z view w → Done (abandonedAt r w (λ p. Ok (Ended p)) p) (viewAfter top (z .cells) view w (abandons p)) (scriptChooser .next xs (lowOf r w) (highOf r w))
+  done-abandon w p k bk i = let s = sized w (k .a-crew) in (
+    tt,
+    record {
+      tie = tie-book d (abandonedAt r w (λ p. Ok (Ended p)) p .left) bk _ (tied (abandonedAt r w (λ p. Ok (Ended p)) p .left) w (abandons p) (tie-abandon d r view (ab .tie) w s p (λ p. Ok (Ended p)) (working w k)));
+      fits = record {
+        values = ab .fits .values;
+        written = ab .fits .written;
+        read = length-each _ 1 (r .tables .read) ∙ ab .fits .read;
+        jobs = length-set (r .tables .jobs) (w - 1) _ ∙ ab .fits .jobs;
+        own = ab .fits .own;
+        flags = length-cleared (r .tables .flags) (r .head .sizes .cells) (r .head .sizes .crews) w (ab .fits .flags) (s .from-one) (s .to-m) ∙ ab .fits .flags;
+        book = i .same-length ∙ ab .fits .book;
+      };
+      n-is = ab .n-is;
+      m-is = ab .m-is;
+      b-is = ab .b-is;
+      active-is = ended-active w k;
+      means = moved-means (lowOf r w) (highOf r w);
+    },
+  )
+
+  step-abandon : (w : CrewNumber) (p : ℕ) → AcceptsWith scriptChooser z xs view (w .0) (abandons p) → Done (outcome d (f []) r (Abandon w)) (viewAfter top (z .cells) view (w .0) (abandons p)) (scriptChooser .next xs (view .low (w .0)) (view .high (w .0)))
+  step-abandon w p sv =
+      subst₂ (λ (l h : ℕ). Done (outcome d (f []) r (Abandon w)) (viewAfter top (z .cells) view (w .0) (abandons p)) (scriptChooser .next xs l h)) (sym (o .2)) (sym (o .3))
+      (subst (λ (o : Outcome V). Done o (viewAfter top (z .cells) view (w .0) (abandons p)) (scriptChooser .next xs (lowOf r (w .0)) (highOf r (w .0)))) (sym (passes-work (Abandon w) refl refl (sv .0) ∙ ap (abandonedAt r (w .0) (λ p. Ok (Ended p))) place))
+      (done-abandon (w .0) p (sv .0)))
+    where
+      o : (view .job (w .0) ≡ jobNumber r (w .0)) × (1 ≤ view .job (w .0)) × (view .low (w .0) ≡ lowOf r (w .0)) × (view .high (w .0) ≡ highOf r (w .0))
+      o = of-open d r view (ab .tie) (w .0) (sized (w .0) (sv .0 .a-crew)) (working (w .0) (sv .0) .has)
+
+      place : f [] (lowOf r (w .0)) (highOf r (w .0)) ≡ p
+      place = picks (lowOf r (w .0)) (highOf r (w .0)) ∙ sym (sv .1 ∙ ap₂ (scriptChooser .gives xs) (o .2) (o .3))
+
+  done-commit : (w p : ℕ) → AtWork z view w → Done (committedAt d r w p) (viewAfter top (z .cells) view w (commits p)) (scriptChooser .next xs (commitLow r w) (highOf r w))
+  done-commit w p k bk i = let s = sized w (k .a-crew) in (
+    tt,
+    record {
+      tie = tie-book d (committedAt d r w p .left) bk _ (tied (committedAt d r w p .left) w (commits p) (tie-commit d r view (ab .tie) w s p (working w k)));
+      fits = record {
+        values = length-each _ 1 (r .tables .values) ∙ ab .fits .values;
+        written = length-each _ 1 (r .tables .written) ∙ ab .fits .written;
+        read = length-each _ 1 (r .tables .read) ∙ ab .fits .read;
+        jobs = length-set _ (w - 1) _ ∙ (length-each _ 1 (r .tables .jobs) ∙ ab .fits .jobs);
+        own = ab .fits .own;
+        flags = length-cleared (r .tables .flags) (r .head .sizes .cells) (r .head .sizes .crews) w (ab .fits .flags) (s .from-one) (s .to-m) ∙ ab .fits .flags;
+        book = i .same-length ∙ ab .fits .book;
+      };
+      n-is = ab .n-is;
+      m-is = ab .m-is;
+      b-is = ab .b-is;
+      active-is = ended-active w k;
+      means = moved-means (commitLow r w) (highOf r w);
+    },
+  )
+
+  step-commit : (w : CrewNumber) (p : ℕ) → AcceptsWith scriptChooser z xs view (w .0) (commits p) → Done (outcome d (f []) r (Commit w)) (viewAfter top (z .cells) view (w .0) (commits p)) (scriptChooser .next xs (commitLowerBound (z .cells) (z .crews) view (w .0)) (view .high (w .0)))
+  step-commit w p sv =
+      subst₂ (λ (l h : ℕ). Done (outcome d (f []) r (Commit w)) (viewAfter top (z .cells) view (w .0) (commits p)) (scriptChooser .next xs l h)) (sym fl) (sym (o .3))
+      (subst (λ (o : Outcome V). Done o (viewAfter top (z .cells) view (w .0) (commits p)) (scriptChooser .next xs (commitLow r (w .0)) (highOf r (w .0)))) (sym (passes-work (Commit w) refl refl (sv .0) ∙ (ap (λ (t : Bool). cond t (abandonOutcome (f []) r (w .0) (λ p. Err (NoPlace p))) (committedAt d r (w .0) (f [] (commitLow r (w .0)) (highOf r (w .0))))) room ∙ ap (committedAt d r (w .0)) place)))
+      (done-commit (w .0) p (sv .0)))
+    where
+      o : (view .job (w .0) ≡ jobNumber r (w .0)) × (1 ≤ view .job (w .0)) × (view .low (w .0) ≡ lowOf r (w .0)) × (view .high (w .0) ≡ highOf r (w .0))
+      o = of-open d r view (ab .tie) (w .0) (sized (w .0) (sv .0 .a-crew)) (working (w .0) (sv .0) .has)
+
+      fl : commitLowerBound (z .cells) (z .crews) view (w .0) ≡ commitLow r (w .0)
+      fl = sym (commit-low-floor d r view (ab .tie) (w .0) (sized (w .0) (sv .0 .a-crew)) (working (w .0) (sv .0)) ∙ ap₂ (λ (n m : ℕ). commitLowerBound n m view (w .0)) (ab .n-is) (ab .m-is))
+
+      room : ltb (highOf r (w .0)) (commitLow r (w .0) + 2) ≡ false
+      room = le-ltb (highOf r (w .0)) (commitLow r (w .0) + 2) (omega (arith, fl, o .3, sv .1))
+
+      place : f [] (commitLow r (w .0)) (highOf r (w .0)) ≡ p
+      place = picks (commitLow r (w .0)) (highOf r (w .0)) ∙ sym (sv .2 ∙ ap₂ (scriptChooser .gives xs) fl (o .3))
+
+  ---- any
+
+  step : (k : Call V) {e : Operation V V ℕ} → SameCall e (operation k) → AcceptsWith scriptChooser z xs view (crewOf k) e → Done (outcome d (f []) r k) (viewAfter top (z .cells) view (crewOf k) e) (chooserAfter scriptChooser z xs view (crewOf k) e)
+  step (Open w) open-open sv = step-open w sv
+  step (Read w c) (read-read {r = v}) sv = step-read w c v sv
+  step (Write w c v) write-write sv = step-write w c v sv
+  step (Commit w) (commit-commit {p = p}) sv = step-commit w p sv
+  step (Abandon w) (abandon-abandon {p = p}) sv = step-abandon w p sv
+
+  pub performed : (k : Call V) {e : Operation V V ℕ} (a : Result (Answer V) Refusal) (r′ : Register V) (f′ : Meaning) → SameCall e (operation k) → AcceptsWith scriptChooser z xs view (crewOf k) e → Performs d r f k a r′ f′ →
+      IsAccepted a × Abreast d z (viewAfter top (z .cells) view (crewOf k) e) (chooserAfter scriptChooser z xs view (crewOf k) e) r′ f′
+  performed k {e = e} a r′ f′ m sv p =
+      let g = step k m sv (r′ .tables .book) (p .enters) in (
+        subst (λ (x : Result (Answer V) Refusal). IsAccepted x) (sym (p .answers)) (g .0),
+        subst₂ (λ (x : Register V) (y : Meaning). Abreast d z (viewAfter top (z .cells) view (crewOf k) e) (chooserAfter scriptChooser z xs view (crewOf k) e) x y) (sym (p .leaves)) (sym (p .asks)) (g .1),
+      )

@@ -1,0 +1,12 @@
+pub mod Started
+pub mod Tied
+pub mod Orders
+pub mod Booked
+pub mod Invariant
+pub mod Opacity
+pub mod RuleFacts
+pub mod Scripts
+pub mod Counting
+pub mod Bounding
+pub mod Accepting
+pub mod Permissiveness

@@ -1,0 +1,4 @@
+pub mod RuleFacts
+pub mod Histories
+pub mod Opacity
+pub mod Permissiveness
