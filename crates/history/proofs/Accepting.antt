@@ -1,4 +1,4 @@
--- Given the positions of a lawful order for places, the register accepts every call.
+-- Where places for the jobs rise along precedence, the register accepts every call at them: the low bound of each open job stays below its place, and the high one above.
 use mathlib.Core.Path.{_≡_, refl, sym, ap, ap₂, subst, _∙_}
 use mathlib.Core.List.{[], _∷_}
 use mathlib.Core.Bool.{Bool, true, false, cond, _&&_}
@@ -19,7 +19,7 @@ use Rattle.history.specs.WellMade.{WellMade, Calls, InRange}
 use Rattle.history.specs.Views.{RegisterView, freshView, conflicts, Accepts, updated, viewAfter}
 use Rattle.history.specs.Views.ViewRun.{starts, goes-on}
 use Rattle.history.specs.Acceptance.{AcceptedAt, positions}
-use Rattle.history.proofs.Moments.{none-some, read-later, committed-later, unopened-projection}
+use Rattle.history.proofs.Moments.{none-some, precedes-later, read-later, committed-later, unopened-projection}
 use Rattle.history.proofs.Tracking.{ended-place, active-unplaced}
 use Rattle.history.proofs.Crews.{openings-by-job, one-crew, open-job-active, well-formed}
 use Rattle.history.proofs.Viewing.{ViewFacts, flag-when-written, written-when-flag, RunFacts, run-facts}
@@ -27,13 +27,7 @@ use Rattle.history.proofs.Alike.{Alike, alike-sym, precedes-alike, openings-al
 use Rattle.history.proofs.Alike.SameCall.{open-open, read-read, commit-commit}
 use Rattle.history.proofs.Alike.Alike.{more}
 
-precedes-later : {V R P : Type 0} (a : Event V R P) {h : Events V R P} {x y : ℕ} → Precedes h x y → Precedes (a ∷ h) x y
-precedes-later a (real-time d e) = real-time (later d) e
-precedes-later a (committed-read d n e) = committed-read (later d) n e
-precedes-later a (read-committed d w e) = read-committed (later d) w e
-precedes-later a (committed-committed d w e) = committed-committed (later d) w e
-
--- places for the jobs that keep the four rules
+-- places for the jobs that rise along precedence
 pub record RisingPlaces {V R P : Type 0} (top : ℕ) (at : ℕ → ℕ) (run : Events V R P) : Type 0 where
   pub rises : (x y : ℕ) → (x ≡ y → ⊥) → Precedes (byJobs run) x y → at x < at y
   pub within : (x : ℕ) → 1 ≤ x → x ≤ openings run → (1 ≤ at x) × (at x + 2 ≤ top)
@@ -57,8 +51,8 @@ conflicts-to s w u (suc n) e = go (or-cases (s .hasRead u (suc n) && s .hasWritt
     go (inr q) ih = ih q
 
 module _ {V : Type 0} where
-  ended-on : (a : Event V V ℕ) {h : History V} {x : ℕ} → Ended h x → Ended (a ∷ h) x
-  ended-on a {h = h} {x = x} e = go (e .occurs)
+  ended-later : (a : Event V V ℕ) {h : History V} {x : ℕ} → Ended h x → Ended (a ∷ h) x
+  ended-later a {h = h} {x = x} e = go (e .occurs)
     where
       go : Occurs h x (commits (e .place)) (e .before) ⊎ Occurs h x (abandons (e .place)) (e .before) → Ended (a ∷ h) x
       go (inl s) = record { place = e .place; before = e .before; occurs = inl (later s) }
@@ -90,7 +84,7 @@ mark-max at Q k x q m = go (leb k (at x)) refl
     go true e = inr (x, q, omega (arith, leb-true k (at x) e))
     go false e = let f : max k (at x) ≡ k = omega (arith, leb-false k (at x) e) in subst (λ z. Mark at Q z) (sym f) m
 
--- the tables have the places of jobs, and leave each open job its own
+-- each table entry is 0 or the place of a job that did what the table is for, and each open job has its place between its bounds
 record PlacesFit {V : Type 0} (at : ℕ → ℕ) (run : History V) (s : RegisterView V) : Type 0 where
   low-is : (w : ℕ) → 1 ≤ openJob run w → s .low w < at (openJob run w)
   high-is : (w : ℕ) → 1 ≤ openJob run w → at (openJob run w) < s .high w
@@ -99,34 +93,34 @@ record PlacesFit {V : Type 0} (at : ℕ → ℕ) (run : History V) (s : Register
   highest-is : Mark at (λ y. Ended (byJobs run) y) (s .highest)
   flag-is : (w c : ℕ) → s .hasRead w c ≡ true → (1 ≤ openJob run w) × ReadGlobally (byJobs run) (openJob run w) c
 
-module _ {V : Type 0} (top n : ℕ) (first : ℕ → V) (at : ℕ → ℕ) (run : History V) (s : RegisterView V) (aw : RunFacts top n first run s) (fits : PlacesFit at run s) where
-  pr : WellFormed (byJobs run)
-  pr = well-formed run (aw .well-made)
+module _ {V : Type 0} (top n : ℕ) (first : ℕ → V) (at : ℕ → ℕ) (run : History V) (s : RegisterView V) (holds : RunFacts top n first run s) (fits : PlacesFit at run s) where
+  wf : WellFormed (byJobs run)
+  wf = well-formed run (holds .well-made)
 
-  abbrev bk : ViewFacts n first run s
-  bk = aw .view-facts
+  abbrev facts : ViewFacts n first run s
+  facts = holds .view-facts
 
   open-now : (w : ℕ) → 1 ≤ openJob run w → endPlace (projection (byJobs run) (openJob run w)) ≡ None
-  open-now w a = active-unplaced (byJobs run) pr (openJob run w) (open-job-active run w a)
+  open-now w a = active-unplaced (byJobs run) wf (openJob run w) (open-job-active run w a)
 
-  has : (w : ℕ) → 1 ≤ openJob run w → 1 ≤ s .job w
-  has w a = rw (bk .job-is w) a
+  job-of-open : (w : ℕ) → 1 ≤ openJob run w → 1 ≤ s .job w
+  job-of-open w a = rw (facts .job-is w) a
 
   not-flag : (w c : ℕ) → 1 ≤ openJob run w → s .hasWritten w c ≡ false → Wrote (byJobs run) (openJob run w) c → ⊥
-  not-flag w c a e wr = both-ways (s .hasWritten w c) e (flag-when-written top n first run s bk w c a wr)
+  not-flag w c a e wr = both-ways (s .hasWritten w c) e (flag-when-written top n first run s facts w c a wr)
 
   -- the tables of places stay as they are
-  marks-on : (a : Event V V ℕ) (c : ℕ) → Mark at (λ y. CommittedCell (a ∷ byJobs run) y c) (s .written c)
-  marks-on a c = mark-map at _ _ (s .written c) (λ y k. committed-later a k) (fits .written-is c)
+  marks-later : (a : Event V V ℕ) (c : ℕ) → Mark at (λ y. CommittedCell (a ∷ byJobs run) y c) (s .written c)
+  marks-later a c = mark-map at _ _ (s .written c) (λ y k. committed-later a k) (fits .written-is c)
 
-  reads-on : (a : Event V V ℕ) (c : ℕ) → Mark at (λ y. ReadGlobally (a ∷ byJobs run) y c × Ended (a ∷ byJobs run) y) (s .read c)
-  reads-on a c = mark-map at _ _ (s .read c) (λ y k. (read-later a (k .0), ended-on a (k .1))) (fits .read-is c)
+  reads-later : (a : Event V V ℕ) (c : ℕ) → Mark at (λ y. ReadGlobally (a ∷ byJobs run) y c × Ended (a ∷ byJobs run) y) (s .read c)
+  reads-later a c = mark-map at _ _ (s .read c) (λ y k. (read-later a (k .0), ended-later a (k .1))) (fits .read-is c)
 
-  highest-on : (a : Event V V ℕ) → Mark at (λ y. Ended (a ∷ byJobs run) y) (s .highest)
-  highest-on a = mark-map at _ _ (s .highest) (λ y k. ended-on a k) (fits .highest-is)
+  highest-later : (a : Event V V ℕ) → Mark at (λ y. Ended (a ∷ byJobs run) y) (s .highest)
+  highest-later a = mark-map at _ _ (s .highest) (λ y k. ended-later a k) (fits .highest-is)
 
-  flags-on : (a : Event V V ℕ) (u c : ℕ) → s .hasRead u c ≡ true → (1 ≤ openJob run u) × ReadGlobally (a ∷ byJobs run) (openJob run u) c
-  flags-on a u c q = let k = fits .flag-is u c q in (k .0, read-later a (k .1))
+  flags-later : (a : Event V V ℕ) (u c : ℕ) → s .hasRead u c ≡ true → (1 ≤ openJob run u) × ReadGlobally (a ∷ byJobs run) (openJob run u) c
+  flags-later a u c q = let k = fits .flag-is u c q in (k .0, read-later a (k .1))
 
   ---- open
   module _ (w : ℕ) (j : openJob run w ≡ 0) (f : RisingPlaces top at (by w opens ∷ run)) where
@@ -134,18 +128,18 @@ module _ {V : Type 0} (top n : ℕ) (first : ℕ → V) (at : ℕ → ℕ) (run 
     new-within = f .within (suc (openings run)) (omega arith) (omega arith)
 
     new-above : s .highest < at (suc (openings run))
-    new-above = mark-below at _ (s .highest) (at (suc (openings run))) (new-within .0) (λ y e. f .rises y (suc (openings run)) (ended-other (byJobs run) (suc (openings run)) y (ap endPlace (unopened-projection (byJobs run) pr (suc (openings run)) (omega (arith, openings-by-job run)))) e) (real-time here e)) (fits .highest-is)
+    new-above = mark-below at _ (s .highest) (at (suc (openings run))) (new-within .0) (λ y e. f .rises y (suc (openings run)) (ended-other (byJobs run) (suc (openings run)) y (ap endPlace (unopened-projection (byJobs run) wf (suc (openings run)) (omega (arith, openings-by-job run)))) e) (real-time here e)) (fits .highest-is)
 
     open-accepted : Accepts top n s w opens
-    open-accepted = (bk .job-is w ∙ j, omega (arith, new-above, new-within .1))
+    open-accepted = (facts .job-is w ∙ j, omega (arith, new-above, new-within .1))
 
     open-fits : PlacesFit at (by w opens ∷ run) (viewAfter top n s w opens)
     open-fits = record {
       low-is = λ u a. low u (eqb w u) a;
       high-is = λ u a. high u (eqb w u) a;
-      written-is = marks-on (by (suc (openings run)) opens);
-      read-is = reads-on (by (suc (openings run)) opens);
-      highest-is = highest-on (by (suc (openings run)) opens);
+      written-is = marks-later (by (suc (openings run)) opens);
+      read-is = reads-later (by (suc (openings run)) opens);
+      highest-is = highest-later (by (suc (openings run)) opens);
       flag-is = λ u c q. flag u c (eqb w u) refl q;
     }
       where
@@ -159,7 +153,7 @@ module _ {V : Type 0} (top n : ℕ) (first : ℕ → V) (at : ℕ → ℕ) (run 
 
         flag : (u c : ℕ) (b : Bool) → eqb w u ≡ b → s .hasRead u c ≡ true → (1 ≤ cond b (suc (openings run)) (openJob run u)) × ReadGlobally (by (suc (openings run)) opens ∷ byJobs run) (cond b (suc (openings run)) (openJob run u)) c
         flag u c true e q = absurd (omega (arith, fits .flag-is u c q .0, j, ap (openJob run) (eqb-true w u e)))
-        flag u c false e q = flags-on (by (suc (openings run)) opens) u c q
+        flag u c false e q = flags-later (by (suc (openings run)) opens) u c q
 
   ---- read
   module _ (w c : ℕ) (v : V) (a : 1 ≤ openJob run w) (e : v ≡ cond (s .hasWritten w c) (s .own w c) (s .value c)) (f : RisingPlaces top at (by w (reads c v) ∷ run)) where
@@ -167,15 +161,15 @@ module _ {V : Type 0} (top n : ℕ) (first : ℕ → V) (at : ℕ → ℕ) (run 
     written-below q = mark-below at _ (s .written c) (at (openJob run w)) (omega (arith, fits .low-is w a)) (λ y k. f .rises y (openJob run w) (ended-other (byJobs run) (openJob run w) y (open-now w a) (committed-ended k)) (committed-read here (not-flag w c a q) k)) (fits .written-is c)
 
     read-accepted : Accepts top n s w (reads c v)
-    read-accepted = (has w a, e, λ q. omega (arith, written-below q, fits .low-is w a, fits .high-is w a))
+    read-accepted = (job-of-open w a, e, λ q. omega (arith, written-below q, fits .low-is w a, fits .high-is w a))
 
     read-fits : PlacesFit at (by w (reads c v) ∷ run) (viewAfter top n s w (reads c v))
     read-fits = record {
       low-is = λ u b. low u (eqb w u) refl b;
       high-is = fits .high-is;
-      written-is = marks-on (by (openJob run w) (reads c v));
-      read-is = reads-on (by (openJob run w) (reads c v));
-      highest-is = highest-on (by (openJob run w) (reads c v));
+      written-is = marks-later (by (openJob run w) (reads c v));
+      read-is = reads-later (by (openJob run w) (reads c v));
+      highest-is = highest-later (by (openJob run w) (reads c v));
       flag-is = λ u k q. flag u k (eqb w u) refl q;
     }
       where
@@ -188,53 +182,53 @@ module _ {V : Type 0} (top n : ℕ) (first : ℕ → V) (at : ℕ → ℕ) (run 
         low u false q b = fits .low-is u b
 
         inner : (b : Bool) → s .hasWritten w c ≡ b → cond b (s .hasRead w c) true ≡ true → (1 ≤ openJob run w) × ReadGlobally (by (openJob run w) (reads c v) ∷ byJobs run) (openJob run w) c
-        inner true q t = flags-on (by (openJob run w) (reads c v)) w c t
+        inner true q t = flags-later (by (openJob run w) (reads c v)) w c t
         inner false q t = (a, record { value = v; before = byJobs run; occurs = here; unwritten = not-flag w c a q })
 
         at-cell : (k : ℕ) (b : Bool) → eqb c k ≡ b → cond b (cond (s .hasWritten w c) (s .hasRead w c) true) (s .hasRead w k) ≡ true → (1 ≤ openJob run w) × ReadGlobally (by (openJob run w) (reads c v) ∷ byJobs run) (openJob run w) k
         at-cell k true q t = subst (λ z. (1 ≤ openJob run w) × ReadGlobally (by (openJob run w) (reads c v) ∷ byJobs run) (openJob run w) z) (eqb-true c k q) (inner (s .hasWritten w c) refl t)
-        at-cell k false q t = flags-on (by (openJob run w) (reads c v)) w k t
+        at-cell k false q t = flags-later (by (openJob run w) (reads c v)) w k t
 
         flag : (u k : ℕ) (b : Bool) → eqb w u ≡ b → cond b (updated (s .hasRead w) c (cond (s .hasWritten w c) (s .hasRead w c) true)) (s .hasRead u) k ≡ true → (1 ≤ openJob run u) × ReadGlobally (by (openJob run w) (reads c v) ∷ byJobs run) (openJob run u) k
         flag u k true q t = subst (λ z. (1 ≤ openJob run z) × ReadGlobally (by (openJob run w) (reads c v) ∷ byJobs run) (openJob run z) k) (eqb-true w u q) (at-cell k (eqb c k) refl t)
-        flag u k false q t = flags-on (by (openJob run w) (reads c v)) u k t
+        flag u k false q t = flags-later (by (openJob run w) (reads c v)) u k t
 
   ---- write
   module _ (w c : ℕ) (v : V) (a : 1 ≤ openJob run w) (l : 1 ≤ c) (u : c ≤ n) where
     write-accepted : Accepts top n s w (writes c v)
-    write-accepted = (has w a, l, u)
+    write-accepted = (job-of-open w a, l, u)
 
     write-fits : PlacesFit at (by w (writes c v) ∷ run) (viewAfter top n s w (writes c v))
     write-fits = record {
       low-is = fits .low-is;
       high-is = fits .high-is;
-      written-is = marks-on (by (openJob run w) (writes c v));
-      read-is = reads-on (by (openJob run w) (writes c v));
-      highest-is = highest-on (by (openJob run w) (writes c v));
-      flag-is = flags-on (by (openJob run w) (writes c v));
+      written-is = marks-later (by (openJob run w) (writes c v));
+      read-is = reads-later (by (openJob run w) (writes c v));
+      highest-is = highest-later (by (openJob run w) (writes c v));
+      flag-is = flags-later (by (openJob run w) (writes c v));
     }
 
   ---- what both endings leave
-  module _ (w : ℕ) (a : 1 ≤ openJob run w) (act : Event V V ℕ) (en : Ended (act ∷ byJobs run) (openJob run w)) where
+  module _ (w : ℕ) (a : 1 ≤ openJob run w) (event : Event V V ℕ) (en : Ended (event ∷ byJobs run) (openJob run w)) where
     ended-low : (u : ℕ) (b : Bool) → 1 ≤ cond b 0 (openJob run u) → cond b 0 (s .low u) < at (cond b 0 (openJob run u))
     ended-low u true l = absurd (omega arith)
     ended-low u false l = fits .low-is u l
 
-    ended-reads : (c : ℕ) (b : Bool) → s .hasRead w c ≡ b → Mark at (λ y. ReadGlobally (act ∷ byJobs run) y c × Ended (act ∷ byJobs run) y) (cond b (max (s .read c) (at (openJob run w))) (s .read c))
-    ended-reads c true e = mark-max at _ (s .read c) (openJob run w) (flags-on act w c e .1, en) (reads-on act c)
-    ended-reads c false e = reads-on act c
+    ended-reads : (c : ℕ) (b : Bool) → s .hasRead w c ≡ b → Mark at (λ y. ReadGlobally (event ∷ byJobs run) y c × Ended (event ∷ byJobs run) y) (cond b (max (s .read c) (at (openJob run w))) (s .read c))
+    ended-reads c true e = mark-max at _ (s .read c) (openJob run w) (flags-later event w c e .1, en) (reads-later event c)
+    ended-reads c false e = reads-later event c
 
-    ended-highest : Mark at (λ y. Ended (act ∷ byJobs run) y) (max (s .highest) (at (openJob run w)))
-    ended-highest = mark-max at _ (s .highest) (openJob run w) en (highest-on act)
+    ended-highest : Mark at (λ y. Ended (event ∷ byJobs run) y) (max (s .highest) (at (openJob run w)))
+    ended-highest = mark-max at _ (s .highest) (openJob run w) en (highest-later event)
 
-    ended-flags : (u c : ℕ) (b : Bool) → cond b (λ c. false) (s .hasRead u) c ≡ true → (1 ≤ cond b 0 (openJob run u)) × ReadGlobally (act ∷ byJobs run) (cond b 0 (openJob run u)) c
+    ended-flags : (u c : ℕ) (b : Bool) → cond b (λ c. false) (s .hasRead u) c ≡ true → (1 ≤ cond b 0 (openJob run u)) × ReadGlobally (event ∷ byJobs run) (cond b 0 (openJob run u)) c
     ended-flags u c true q = absurd (both-ways false refl q)
-    ended-flags u c false q = flags-on act u c q
+    ended-flags u c false q = flags-later event u c q
 
   ---- commit
   module _ (w : ℕ) (a : 1 ≤ openJob run w) (f : RisingPlaces top at (by w (commits (at (openJob run w))) ∷ run)) where
     wrote : (c : ℕ) → s .hasWritten w c ≡ true → Wrote (byJobs run) (openJob run w) c
-    wrote c q = written-when-flag top n first run s bk w c a q
+    wrote c q = written-when-flag top n first run s facts w c a q
 
     other : (y : ℕ) → Ended (byJobs run) y → y ≡ openJob run w → ⊥
     other y en = ended-other (byJobs run) (openJob run w) y (open-now w a) en
@@ -255,22 +249,22 @@ module _ {V : Type 0} (top n : ℕ) (first : ℕ → V) (at : ℕ → ℕ) (run 
         f .rises (openJob run u) (openJob run w) (λ e. ne (one-crew run u w (r .0) e)) (read-committed here (wrote (k .0) (k .2)) (r .1))
 
     commit-accepted : Accepts top n s w (commits (at (openJob run w)))
-    commit-accepted = (has w a, fits .low-is w a, fits .high-is w a, cell-below, λ u ne b q. omega (arith, reader-below u ne q, fits .low-is u (rw (← bk .job-is u) b)))
+    commit-accepted = (job-of-open w a, fits .low-is w a, fits .high-is w a, cell-below, λ u ne b q. omega (arith, reader-below u ne q, fits .low-is u (rw (← facts .job-is u) b)))
 
     commit-fits : PlacesFit at (by w (commits (at (openJob run w))) ∷ run) (viewAfter top n s w (commits (at (openJob run w))))
     commit-fits = record {
-      low-is = λ u l. ended-low w a act en u (eqb w u) l;
+      low-is = λ u l. ended-low w a event en u (eqb w u) l;
       high-is = λ u l. high u (eqb w u) refl l;
       written-is = λ c. marked c (s .hasWritten w c) refl;
-      read-is = λ c. ended-reads w a act en c (s .hasRead w c) refl;
-      highest-is = ended-highest w a act en;
-      flag-is = λ u c q. ended-flags w a act en u c (eqb w u) q;
+      read-is = λ c. ended-reads w a event en c (s .hasRead w c) refl;
+      highest-is = ended-highest w a event en;
+      flag-is = λ u c q. ended-flags w a event en u c (eqb w u) q;
     }
       where
-        act : Event V V ℕ
-        act = by (openJob run w) (commits (at (openJob run w)))
+        event : Event V V ℕ
+        event = by (openJob run w) (commits (at (openJob run w)))
 
-        en : Ended (act ∷ byJobs run) (openJob run w)
+        en : Ended (event ∷ byJobs run) (openJob run w)
         en = record { place = at (openJob run w); before = byJobs run; occurs = inl here }
 
         inner : (u : ℕ) → (u ≡ w → ⊥) → 1 ≤ openJob run u → (b : Bool) → conflicts s w u n ≡ b → at (openJob run u) < cond b (min (s .high u) (at (openJob run w))) (s .high u)
@@ -281,29 +275,29 @@ module _ {V : Type 0} (top n : ℕ) (first : ℕ → V) (at : ℕ → ℕ) (run 
         high u true e l = absurd (omega arith)
         high u false e l = inner u (λ q. eqb-false w u e (sym q)) l (conflicts s w u n) refl
 
-        marked : (c : ℕ) (b : Bool) → s .hasWritten w c ≡ b → Mark at (λ y. CommittedCell (act ∷ byJobs run) y c) (cond b (at (openJob run w)) (s .written c))
+        marked : (c : ℕ) (b : Bool) → s .hasWritten w c ≡ b → Mark at (λ y. CommittedCell (event ∷ byJobs run) y c) (cond b (at (openJob run w)) (s .written c))
         marked c true q = inr (openJob run w, record { place = at (openJob run w); before = byJobs run; occurs = here; wrote = wrote c q }, refl)
-        marked c false q = marks-on act c
+        marked c false q = marks-later event c
 
   ---- abandon
   module _ (w : ℕ) (a : 1 ≤ openJob run w) where
     abandon-accepted : Accepts top n s w (abandons (at (openJob run w)))
-    abandon-accepted = (has w a, fits .low-is w a, fits .high-is w a)
+    abandon-accepted = (job-of-open w a, fits .low-is w a, fits .high-is w a)
 
     abandon-fits : PlacesFit at (by w (abandons (at (openJob run w))) ∷ run) (viewAfter top n s w (abandons (at (openJob run w))))
     abandon-fits = record {
-      low-is = λ u l. ended-low w a act en u (eqb w u) l;
+      low-is = λ u l. ended-low w a event en u (eqb w u) l;
       high-is = λ u l. high u (eqb w u) l;
-      written-is = marks-on act;
-      read-is = λ c. ended-reads w a act en c (s .hasRead w c) refl;
-      highest-is = ended-highest w a act en;
-      flag-is = λ u c q. ended-flags w a act en u c (eqb w u) q;
+      written-is = marks-later event;
+      read-is = λ c. ended-reads w a event en c (s .hasRead w c) refl;
+      highest-is = ended-highest w a event en;
+      flag-is = λ u c q. ended-flags w a event en u c (eqb w u) q;
     }
       where
-        act : Event V V ℕ
-        act = by (openJob run w) (abandons (at (openJob run w)))
+        event : Event V V ℕ
+        event = by (openJob run w) (abandons (at (openJob run w)))
 
-        en : Ended (act ∷ byJobs run) (openJob run w)
+        en : Ended (event ∷ byJobs run) (openJob run w)
         en = record { place = at (openJob run w); before = byJobs run; occurs = inr here }
 
         high : (u : ℕ) (b : Bool) → 1 ≤ cond b 0 (openJob run u) → at (cond b 0 (openJob run u)) < cond b 0 (s .high u)
@@ -322,8 +316,8 @@ module _ {V : Type 0} (top n m : ℕ) (first : ℕ → V) (own : ℕ → ℕ →
   run-facts-of : {cs : Calls V} (g : AcceptedSoFar cs) → RunFacts top n first (g .accepted .run) (g .accepted .view)
   run-facts-of g = run-facts top n first own (g .accepted .view-run)
 
-  busy : {cs : Calls V} (g : AcceptedSoFar cs) (w : ℕ) → 1 ≤ openJob cs w → 1 ≤ openJob (g .accepted .run) w
-  busy g w a = rw (job-alike (alike g) w) a
+  has-open-job : {cs : Calls V} (g : AcceptedSoFar cs) (w : ℕ) → 1 ≤ openJob cs w → 1 ≤ openJob (g .accepted .run) w
+  has-open-job g w a = rw (job-alike (alike g) w) a
 
   accepted-so-far : (cs : Calls V) → WellMade cs → InRange n m cs → RisingPlaces top at cs → AcceptedSoFar cs
   accepted-so-far [] wm r f = record {
@@ -348,7 +342,7 @@ module _ {V : Type 0} (top n m : ℕ) (first : ℕ → V) (own : ℕ → ℕ →
       let g = accepted-so-far cs (wm .1) (r .2) (rising-tail top at w (reads c t) cs f) in
       let s = g .accepted .view in
       let v = cond (s .hasWritten w c) (s .own w c) (s .value c) in
-      let a = busy g w (wm .0) in
+      let a = has-open-job g w (wm .0) in
       let k = rising-alike top at (more read-read (alike-sym (alike g))) f in
       record {
         accepted = record {
@@ -363,7 +357,7 @@ module _ {V : Type 0} (top n m : ℕ) (first : ℕ → V) (own : ℕ → ℕ →
   accepted-so-far (by w (writes c v) ∷ cs) wm r f =
       let g = accepted-so-far cs (wm .1) (r .2) (rising-tail top at w (writes c v) cs f) in
       let s = g .accepted .view in
-      let a = busy g w (wm .0) in
+      let a = has-open-job g w (wm .0) in
       record {
         accepted = record {
           run = by w (writes c v) ∷ g .accepted .run;
@@ -378,7 +372,7 @@ module _ {V : Type 0} (top n m : ℕ) (first : ℕ → V) (own : ℕ → ℕ →
       let g = accepted-so-far cs (wm .1) (r .2) (rising-tail top at w (commits t) cs f) in
       let s = g .accepted .view in
       let p = at (openJob (g .accepted .run) w) in
-      let a = busy g w (wm .0) in
+      let a = has-open-job g w (wm .0) in
       let k = rising-alike top at (more commit-commit (alike-sym (alike g))) f in
       record {
         accepted = record {
@@ -394,7 +388,7 @@ module _ {V : Type 0} (top n m : ℕ) (first : ℕ → V) (own : ℕ → ℕ →
       let g = accepted-so-far cs (wm .1) (r .2) (rising-tail top at w (abandons t) cs f) in
       let s = g .accepted .view in
       let p = at (openJob (g .accepted .run) w) in
-      let a = busy g w (wm .0) in
+      let a = has-open-job g w (wm .0) in
       record {
         accepted = record {
           run = by w (abandons p) ∷ g .accepted .run;

@@ -1,4 +1,4 @@
--- The four rules look at the calls alone: acts that differ only in answers have the same precedence.
+-- The four rules look at the calls alone: events that differ only in their answers have the same precedence.
 use mathlib.Core.Path.{_≡_, refl, ap, ap₂, subst}
 use mathlib.Core.List.{List, [], _∷_}
 use mathlib.Core.Bool.{cond}
@@ -21,7 +21,7 @@ pub data SameCall {V R P S Q : Type 0} : Operation V R P → Operation V S Q →
   commit-commit : {p : P} {q : Q} → SameCall (commits p) (commits q)
   abandon-abandon : {p : P} {q : Q} → SameCall (abandons p) (abandons q)
 
--- the same calls, by the same
+-- the same calls, by the same crews or jobs
 pub data Alike {V R P S Q : Type 0} : Events V R P → Events V S Q → Type 0 where
   none : Alike [] []
   more : {x : ℕ} {d : Operation V R P} {e : Operation V S Q} {h : Events V R P} {g : Events V S Q} → SameCall d e → Alike h g → Alike (by x d ∷ h) (by x e ∷ g)
@@ -43,44 +43,44 @@ moment {g = g} here a = (g, here, a)
 moment (later s) (more m a) = let k = moment s a in (k .0, later (k .1), k .2)
 
 module _ {V R P S Q : Type 0} where
-  -- what x did in h, as done in g
-  abbrev Doing : Operation V R P → Events V R P → Events V S Q → ℕ → Type 0
-  Doing d k g x = (e : Operation V S Q) × (l : Events V S Q) × Extends g (by x e ∷ l) × SameCall d e × Alike k l
+  -- an operation of x in h, as it occurs in g
+  abbrev OccursAlike : Operation V R P → Events V R P → Events V S Q → ℕ → Type 0
+  OccursAlike d k g x = (e : Operation V S Q) × (l : Events V S Q) × Extends g (by x e ∷ l) × SameCall d e × Alike k l
 
-  occurs-apart : {x : ℕ} {d : Operation V R P} {k : Events V R P} {g l : Events V S Q} → Extends g l → Alike (by x d ∷ k) l → Doing d k g x
+  occurs-apart : {x : ℕ} {d : Operation V R P} {k : Events V R P} {g l : Events V S Q} → Extends g l → Alike (by x d ∷ k) l → OccursAlike d k g x
   occurs-apart s (more {e = e} {g = l} m a) = (e, l, s, m, a)
 
-  doing : {x : ℕ} {d : Operation V R P} {h k : Events V R P} {g : Events V S Q} → Extends h (by x d ∷ k) → Alike h g → Doing d k g x
-  doing s a = let k = moment s a in occurs-apart (k .1) (k .2)
+  occurs-alike : {x : ℕ} {d : Operation V R P} {h k : Events V R P} {g : Events V S Q} → Extends h (by x d ∷ k) → Alike h g → OccursAlike d k g x
+  occurs-alike s a = let k = moment s a in occurs-apart (k .1) (k .2)
 
   open-alike : {x : ℕ} {h k : Events V R P} {g : Events V S Q} → Occurs h x opens k → Alike h g → (l : Events V S Q) × Occurs g x opens l × Alike k l
-  open-alike {x = x} {k = k} {g = g} s a = go (doing s a)
+  open-alike {x = x} {k = k} {g = g} s a = go (occurs-alike s a)
     where
-      go : Doing opens k g x → (l : Events V S Q) × Occurs g x opens l × Alike k l
+      go : OccursAlike opens k g x → (l : Events V S Q) × Occurs g x opens l × Alike k l
       go (_, l, s, open-open, a) = (l, s, a)
 
   occurs-read-alike : {x c : ℕ} {r : R} {h k : Events V R P} {g : Events V S Q} → Occurs h x (reads c r) k → Alike h g → (s : S) × (l : Events V S Q) × Occurs g x (reads c s) l × Alike k l
-  occurs-read-alike {x = x} {c = c} {r = r} {k = k} {g = g} s a = go (doing s a)
+  occurs-read-alike {x = x} {c = c} {r = r} {k = k} {g = g} s a = go (occurs-alike s a)
     where
-      go : Doing (reads c r) k g x → (s : S) × (l : Events V S Q) × Occurs g x (reads c s) l × Alike k l
+      go : OccursAlike (reads c r) k g x → (s : S) × (l : Events V S Q) × Occurs g x (reads c s) l × Alike k l
       go (_, l, s, read-read {s = t}, a) = (t, l, s, a)
 
   occurs-write-alike : {x c : ℕ} {v : V} {h k : Events V R P} {g : Events V S Q} → Occurs h x (writes c v) k → Alike h g → (l : Events V S Q) × Occurs g x (writes c v) l × Alike k l
-  occurs-write-alike {x = x} {c = c} {v = v} {k = k} {g = g} s a = go (doing s a)
+  occurs-write-alike {x = x} {c = c} {v = v} {k = k} {g = g} s a = go (occurs-alike s a)
     where
-      go : Doing (writes c v) k g x → (l : Events V S Q) × Occurs g x (writes c v) l × Alike k l
+      go : OccursAlike (writes c v) k g x → (l : Events V S Q) × Occurs g x (writes c v) l × Alike k l
       go (_, l, s, write-write, a) = (l, s, a)
 
   occurs-commit-alike : {x : ℕ} {p : P} {h k : Events V R P} {g : Events V S Q} → Occurs h x (commits p) k → Alike h g → (q : Q) × (l : Events V S Q) × Occurs g x (commits q) l × Alike k l
-  occurs-commit-alike {x = x} {p = p} {k = k} {g = g} s a = go (doing s a)
+  occurs-commit-alike {x = x} {p = p} {k = k} {g = g} s a = go (occurs-alike s a)
     where
-      go : Doing (commits p) k g x → (q : Q) × (l : Events V S Q) × Occurs g x (commits q) l × Alike k l
+      go : OccursAlike (commits p) k g x → (q : Q) × (l : Events V S Q) × Occurs g x (commits q) l × Alike k l
       go (_, l, s, commit-commit {q = q}, a) = (q, l, s, a)
 
   occurs-abandon-alike : {x : ℕ} {p : P} {h k : Events V R P} {g : Events V S Q} → Occurs h x (abandons p) k → Alike h g → (q : Q) × (l : Events V S Q) × Occurs g x (abandons q) l × Alike k l
-  occurs-abandon-alike {x = x} {p = p} {k = k} {g = g} s a = go (doing s a)
+  occurs-abandon-alike {x = x} {p = p} {k = k} {g = g} s a = go (occurs-alike s a)
     where
-      go : Doing (abandons p) k g x → (q : Q) × (l : Events V S Q) × Occurs g x (abandons q) l × Alike k l
+      go : OccursAlike (abandons p) k g x → (q : Q) × (l : Events V S Q) × Occurs g x (abandons q) l × Alike k l
       go (_, l, s, abandon-abandon {q = q}, a) = (q, l, s, a)
 
   wrote-alike : {h : Events V R P} {g : Events V S Q} {x c : ℕ} → Alike h g → Wrote h x c → Wrote g x c

@@ -1,4 +1,4 @@
--- The register with a chooser.
+-- A register that asks a chooser for its places: what it accepts has an order, and what has an order it accepts with a script.
 use mathlib.Core.Path.{_≡_, refl, sym, ap, subst}
 use mathlib.Core.List.{List, [], _∷_}
 use mathlib.Core.Bool.{Bool, true, false, cond, not, _&&_}
@@ -36,7 +36,7 @@ script-keeps-law = record {
 script-gives : (k : ℕ) (ks : List ℕ) (low high : ℕ) → low < k → k < high → (scriptChooser .gives (k ∷ ks) low high ≡ k) × (scriptChooser .next (k ∷ ks) low high ≡ ks)
 script-gives k ks low high l u = rw (le-ltb high (low + 2) (omega arith), and-from (ltb low k) (ltb k high) (lt-ltb low k l) (lt-ltb k high u)) (refl, refl)
 
----- the floor of a commit is above each of its parts, and below what is above all of them
+---- The low bound that a commit asks for is above each of its parts, and below what is above all of them
 module _ {V : Type 0} (n : ℕ) (s : RegisterView V) (w : ℕ) where
   reader-yes : (u : ℕ) → (u ≡ w → ⊥) → 1 ≤ s .job u → conflicts s w u n ≡ true → isOpenReader n s w u ≡ true
   reader-yes u ne j q = rw (ne-eqb u w ne, le-leb 1 (s .job u) j) q
@@ -83,7 +83,7 @@ module _ {V : Type 0} (n : ℕ) (s : RegisterView V) (w : ℕ) where
       go true e ih = let k = reader-parts (suc m) e in omega (arith, f (suc m) (k .0) (k .1) (k .2))
       go false e ih = omega arith
 
----- crews at work are crews
+---- A crew with an open job is in range
 job-range : {V R P : Type 0} (n m : ℕ) (run : Events V R P) → InRange n m run → (u : ℕ) → 1 ≤ openJob run u → UpTo m u
 job-range n m [] r u a = absurd (omega arith)
 job-range n m (by w opens ∷ run) r u a = go (eqb w u) refl a (job-range n m run (r .2) u)
@@ -105,23 +105,23 @@ job-range n m (by w (abandons p) ∷ run) r u a = go (eqb w u) a (job-range n m 
     go false a ih = ih a
 
 module _ {V : Type 0} (z : Sizes) (first : ℕ → V) (own : ℕ → ℕ → V) where
-  ---- what is served, is accepted
+  ---- What is accepted with a chooser is accepted at the places that it gave
   module _ {C : Type 0} (ch : Chooser C) (fair : KeepsLaw ch) where
     with-accepts : (k : C) (run : History V) (s : RegisterView V) → RunFacts (z .top) (z .cells) first run s → InRange (z .cells) (z .crews) run → (w : ℕ) (d : Operation V V ℕ) → AcceptsWith ch z k s w d → Accepts (z .top) (z .cells) s w d
-    with-accepts k run s aw r w opens sv = (sv .1, sv .2)
-    with-accepts k run s aw r w (reads c v) sv = (sv .0 .a-job, sv .2, sv .3)
-    with-accepts k run s aw r w (writes c v) sv = (sv .0 .a-job, sv .1 .0, sv .1 .1)
-    with-accepts k run s aw r w (commits p) sv = (sv .0 .a-job, omega arith, omega arith, cells, crews)
+    with-accepts k run s holds r w opens sv = (sv .1, sv .2)
+    with-accepts k run s holds r w (reads c v) sv = (sv .0 .a-job, sv .2, sv .3)
+    with-accepts k run s holds r w (writes c v) sv = (sv .0 .a-job, sv .1 .0, sv .1 .1)
+    with-accepts k run s holds r w (commits p) sv = (sv .0 .a-job, omega arith, omega arith, cells, crews)
       where
         between : (commitLowerBound (z .cells) (z .crews) s w < p) × (p < s .high w)
         between = rw (sv .2) (fair .between k (commitLowerBound (z .cells) (z .crews) s w) (s .high w) (sv .1))
 
         cells : (c : ℕ) → s .hasWritten w c ≡ true → (s .written c < p) × (s .read c < p)
-        cells c q = let i = aw .view-facts .range w c q in let f = cell-below-bound (z .cells) s w (z .cells) c (i .0) (i .1) q in let b = between in (omega arith, omega arith)
+        cells c q = let i = holds .view-facts .range w c q in let f = cell-below-bound (z .cells) s w (z .cells) c (i .0) (i .1) q in let b = between in (omega arith, omega arith)
 
         crews : (u : ℕ) → (u ≡ w → ⊥) → 1 ≤ s .job u → conflicts s w u (z .cells) ≡ true → s .low u + 1 < p
-        crews u ne j q = let i = job-range (z .cells) (z .crews) run r u (rw (← aw .view-facts .job-is u) j) in let f = reader-below-bound (z .cells) s w (z .crews) u (i .0) (i .1) (reader-yes (z .cells) s w u ne j q) in let b = between in omega arith
-    with-accepts k run s aw r w (abandons p) sv = let b = fair .between k (s .low w) (s .high w) (sv .0 .room) in (sv .0 .a-job, rw (sv .1) (b .0), rw (sv .1) (b .1))
+        crews u ne j q = let i = job-range (z .cells) (z .crews) run r u (rw (← holds .view-facts .job-is u) j) in let f = reader-below-bound (z .cells) s w (z .crews) u (i .0) (i .1) (reader-yes (z .cells) s w u ne j q) in let b = between in omega arith
+    with-accepts k run s holds r w (abandons p) sv = let b = fair .between k (s .low w) (s .high w) (sv .0 .room) in (sv .0 .a-job, rw (sv .1) (b .0), rw (sv .1) (b .1))
 
     with-in-range : (k : C) (run : History V) (s : RegisterView V) → InRange (z .cells) (z .crews) run → (w : ℕ) (d : Operation V V ℕ) → AcceptsWith ch z k s w d → InRange (z .cells) (z .crews) (by w d ∷ run)
     with-in-range k run s r w opens sv = (sv .0, tt, r)
@@ -139,7 +139,7 @@ module _ {V : Type 0} (z : Sizes) (first : ℕ → V) (own : ℕ → ℕ → V) 
     pub chosen-has-order : (k₀ : C) (cs : Calls V) → 2 ≤ z .top → AcceptedWith ch z first own k₀ cs → (row : List ℕ) × SerializationOrder (byJobs cs) row
     chosen-has-order k₀ cs t a = accepted-has-order first own (z .top) (z .cells) cs (placesOf (a .run)) t (record { run = a .run; view = a .view; same-calls = a .same-calls; same-places = refl; view-run = run-with-view-run (a .run-with) .0 })
 
-  ---- what is accepted at the places of a script, is served by that script
+  ---- What is accepted at given places is accepted with the script of them
   high-step : (s : RegisterView V) → ((u : ℕ) → s .high u ≤ z .top) → (w : ℕ) (d : Operation V V ℕ) (u : ℕ) → viewAfter (z .top) (z .cells) s w d .high u ≤ z .top
   high-step s f w opens u = go (eqb w u)
     where
@@ -168,35 +168,35 @@ module _ {V : Type 0} (z : Sizes) (first : ℕ → V) (own : ℕ → ℕ → V) 
   ByScript run s = (qs : List ℕ) → RunWith scriptChooser z first own (reverseOnto (placesOf run) qs) run s qs
 
   at-work : (run : History V) (s : RegisterView V) → RunFacts (z .top) (z .cells) first run s → ((u : ℕ) → s .high u ≤ z .top) → (w : ℕ) → UpTo (z .crews) w → 1 ≤ s .job w → AtWork z s w
-  at-work run s aw hb w c j = record { a-crew = c; a-job = j; room = aw .view-facts .room w (rw (← aw .view-facts .job-is w) j); below-top = hb w }
+  at-work run s holds hb w c j = record { a-crew = c; a-job = j; room = holds .view-facts .room w (rw (← holds .view-facts .job-is w) j); below-top = hb w }
 
   accepts-by-script : (run : History V) (s : RegisterView V) → RunFacts (z .top) (z .cells) first run s → ((u : ℕ) → s .high u ≤ z .top) → (w : ℕ) (d : Operation V V ℕ) → Accepts (z .top) (z .cells) s w d → InRange (z .cells) (z .crews) (by w d ∷ run) → openings (by w d ∷ run) ≤ z .entries → ByScript run s → ByScript (by w d ∷ run) (viewAfter (z .top) (z .cells) s w d)
-  accepts-by-script run s aw hb w opens ac r f ih qs = RunWith.goes-on (ih qs) (r .0, ac .0, ac .1, rw (aw .view-facts .opened-is) f)
-  accepts-by-script run s aw hb w (reads c v) ac r f ih qs = RunWith.goes-on (ih qs) (at-work run s aw hb w (r .0) (ac .0), r .1, ac .1, ac .2)
-  accepts-by-script run s aw hb w (writes c v) ac r f ih qs = RunWith.goes-on (ih qs) (at-work run s aw hb w (r .0) (ac .0), r .1)
-  accepts-by-script run s aw hb w (commits p) ac r f ih qs =
+  accepts-by-script run s holds hb w opens ac r f ih qs = RunWith.goes-on (ih qs) (r .0, ac .0, ac .1, rw (holds .view-facts .opened-is) f)
+  accepts-by-script run s holds hb w (reads c v) ac r f ih qs = RunWith.goes-on (ih qs) (at-work run s holds hb w (r .0) (ac .0), r .1, ac .1, ac .2)
+  accepts-by-script run s holds hb w (writes c v) ac r f ih qs = RunWith.goes-on (ih qs) (at-work run s holds hb w (r .0) (ac .0), r .1)
+  accepts-by-script run s holds hb w (commits p) ac r f ih qs =
       let l : commitLowerBound (z .cells) (z .crews) s w < p = omega (arith, ac .1, cells-bound-below (z .cells) s w p (z .cells) (omega (arith, ac .1)) (ac .3), readers-bound-below (z .cells) s w p (z .crews) (omega (arith, ac .1)) (ac .4)) in
       let g = script-gives p qs (commitLowerBound (z .cells) (z .crews) s w) (s .high w) l (ac .2) in
       subst (λ k. RunWith scriptChooser z first own (reverseOnto (placesOf run) (p ∷ qs)) (by w (commits p) ∷ run) (viewAfter (z .top) (z .cells) s w (commits p)) k) (g .1)
-      (RunWith.goes-on (ih (p ∷ qs)) (at-work run s aw hb w (r .0) (ac .0), omega (arith, l, ac .2), sym (g .0)))
-  accepts-by-script run s aw hb w (abandons p) ac r f ih qs =
+      (RunWith.goes-on (ih (p ∷ qs)) (at-work run s holds hb w (r .0) (ac .0), omega (arith, l, ac .2), sym (g .0)))
+  accepts-by-script run s holds hb w (abandons p) ac r f ih qs =
       let g = script-gives p qs (s .low w) (s .high w) (ac .1) (ac .2) in
       subst (λ k. RunWith scriptChooser z first own (reverseOnto (placesOf run) (p ∷ qs)) (by w (abandons p) ∷ run) (viewAfter (z .top) (z .cells) s w (abandons p)) k) (g .1)
-      (RunWith.goes-on (ih (p ∷ qs)) (at-work run s aw hb w (r .0) (ac .0), sym (g .0)))
+      (RunWith.goes-on (ih (p ∷ qs)) (at-work run s holds hb w (r .0) (ac .0), sym (g .0)))
 
-  range-on : (w : ℕ) (d : Operation V V ℕ) (run : History V) → InRange (z .cells) (z .crews) (by w d ∷ run) → InRange (z .cells) (z .crews) run
-  range-on w d run r = r .2
+  range-tail : (w : ℕ) (d : Operation V V ℕ) (run : History V) → InRange (z .cells) (z .crews) (by w d ∷ run) → InRange (z .cells) (z .crews) run
+  range-tail w d run r = r .2
 
-  openings-on : (w : ℕ) (d : Operation V V ℕ) (run : History V) → openings (by w d ∷ run) ≤ z .entries → openings run ≤ z .entries
-  openings-on w opens run f = omega arith
-  openings-on w (reads c v) run f = f
-  openings-on w (writes c v) run f = f
-  openings-on w (commits p) run f = f
-  openings-on w (abandons p) run f = f
+  openings-tail : (w : ℕ) (d : Operation V V ℕ) (run : History V) → openings (by w d ∷ run) ≤ z .entries → openings run ≤ z .entries
+  openings-tail w opens run f = omega arith
+  openings-tail w (reads c v) run f = f
+  openings-tail w (writes c v) run f = f
+  openings-tail w (commits p) run f = f
+  openings-tail w (abandons p) run f = f
 
   view-run-by-script : {run : History V} {s : RegisterView V} → ViewRun (z .top) (z .cells) first own run s → InRange (z .cells) (z .crews) run → openings run ≤ z .entries → ByScript run s
   view-run-by-script ViewRun.starts r f = λ qs. RunWith.starts
-  view-run-by-script (ViewRun.goes-on {run = run} {s = s} {w = w} {o = d} g ac) r f = accepts-by-script run s (run-facts (z .top) (z .cells) first own g) (high-below g) w d ac r f (view-run-by-script g (range-on w d run r) (openings-on w d run f))
+  view-run-by-script (ViewRun.goes-on {run = run} {s = s} {w = w} {o = d} g ac) r f = accepts-by-script run s (run-facts (z .top) (z .cells) first own g) (high-below g) w d ac r f (view-run-by-script g (range-tail w d run r) (openings-tail w d run f))
 
   pub positions-script : (cs : Calls V) → z .entries + 2 ≤ z .top → WellMadeList (z .cells) (z .crews) (z .entries) cs → (row : List ℕ) → SerializationOrder (byJobs cs) row → AcceptedWith scriptChooser z first own (reverseOnto (positions (position row) cs) []) cs
   positions-script cs t wl row l =

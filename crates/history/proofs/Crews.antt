@@ -1,4 +1,4 @@
--- A well made run of crews gives a proper history of jobs.
+-- From crews to jobs: a well-made run of crews is a well-formed history of jobs, and calls move the bounds of jobs as they move those of crews.
 use mathlib.Core.Path.{_≡_, refl, sym, ap, _∙_}
 use mathlib.Core.List.{List, [], _∷_}
 use mathlib.Core.Bool.{Bool, true, false, cond}
@@ -135,8 +135,8 @@ module _ {V : Type 0} where
   active-positive run wm (suc x) o = omega arith
 
   ended-crew : (run : History V) (u x j : ℕ) (d : Operation V V ℕ) → ((s : List (Operation V V ℕ)) → isActive (d ∷ s) ≡ false) → openJob run u ≡ j → (b : Bool) → eqb j x ≡ b → isActive (cond b (d ∷ projection (byJobs run) x) (projection (byJobs run) x)) ≡ true → (isActive (projection (byJobs run) x) ≡ true → openJob run (crewOf run x) ≡ x) → cond (eqb u (crewOf run x)) 0 (openJob run (crewOf run x)) ≡ x
-  ended-crew run u x j d shut q true e o ih = absurd (both-ways (isActive (d ∷ projection (byJobs run) x)) (shut (projection (byJobs run) x)) o)
-  ended-crew run u x j d shut q false e o ih = rw (ne-eqb u (crewOf run x) (λ k. eqb-false j x e (sym q ∙ (ap (openJob run) k ∙ ih o)))) (ih o)
+  ended-crew run u x j d unflagged q true e o ih = absurd (both-ways (isActive (d ∷ projection (byJobs run) x)) (unflagged (projection (byJobs run) x)) o)
+  ended-crew run u x j d unflagged q false e o ih = rw (ne-eqb u (crewOf run x) (λ k. eqb-false j x e (sym q ∙ (ap (openJob run) k ∙ ih o)))) (ih o)
 
   still-active : (s t : List (Operation V V ℕ)) (b : Bool) → isActive s ≡ isActive t → isActive (cond b s t) ≡ true → isActive t ≡ true
   still-active s t true e o = sym e ∙ o

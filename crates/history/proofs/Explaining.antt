@@ -1,4 +1,4 @@
--- Jobs done singly in a row that keeps the rules are told what they were told: by induction on one more act of the history, with the row as it is.
+-- Serial execution in a respectful row explains what was told: by induction on one more event of the history, with the row as it is.
 use mathlib.Core.Path.{_≡_, refl, sym, ap, ap₂, _∙_}
 use mathlib.Core.List.{List, [], _∷_}
 use mathlib.Core.Bool.{Bool, true, false, cond}
@@ -32,7 +32,7 @@ either-eq {A} {u} {w} P x y p q = go (eqb x y) refl
     go false e = q
 
 module _ {V : Type 0} (first : ℕ → V) where
-  -- jobs of the row that put nothing into c can be passed over
+  -- jobs of the row that install nothing into c can be passed over
   left-by-skip : (σ : ℕ → List (Operation V V ℕ)) (c : ℕ) {part row : List ℕ} → Extends row part → ((z : ℕ) (eb : List ℕ) → Extends row (z ∷ eb) → Extends eb part → installs (σ z) c ≡ None) → leftBy σ first row c ≡ leftBy σ first part c
   left-by-skip σ c here none = refl
   left-by-skip σ c (later {a = z} {h = r} s) none = ap (λ o. orElse o (leftBy σ first r c)) (none z r here s) ∙ left-by-skip σ c s (λ w eb t u. none w eb (later t) u)
@@ -58,7 +58,7 @@ module _ {V : Type 0} (first : ℕ → V) where
   observes-same m n (commits p ∷ s) e = observes-same m n s e
   observes-same m n (abandons p ∷ s) e = observes-same m n s e
 
-  -- in a row that keeps the rules nobody stands after y who comes before it
+  -- none stands before a job that it must stand after
   NoBreach : History V → List ℕ → Type 0
   NoBreach h row = (y : ℕ) (ea : List ℕ) (x : ℕ) (eb : List ℕ) → Extends row (y ∷ ea) → Extends ea (x ∷ eb) → Precedes h y x → ⊥
 
@@ -81,7 +81,7 @@ module _ {V : Type 0} (first : ℕ → V) where
   unfolding HasCommitted
   has-committed-tail (by y d) h row w x q = w x (still-committed d (projection h x) (eqb y x) q)
 
-  -- a commit changes what one job puts, and no other act changes what any job puts
+  -- a commit changes what one job installs, and no other event changes what any job installs
   commit-installs : (h : History V) (x p z c : ℕ) → (x ≡ z → buffered (projection h z) c ≡ None) → installs (projection (by x (commits p) ∷ h) z) c ≡ installs (projection h z) c
   commit-installs h x p z c n = go (eqb x z) refl (isCommitted (projection h z))
     where
@@ -102,7 +102,7 @@ module _ {V : Type 0} (first : ℕ → V) where
     so-observed : (y : ℕ) (ea : List ℕ) → Extends row (y ∷ ea) → observes (leftBy (projection h) first ea) (projection h y) ≡ observed (projection h y)
     so-left : (c : ℕ) → leftBy (projection h) first row c ≡ committedValue first h c
 
-  -- an act that changes no puts: only what its own job is told is left to show
+  -- an event that changes nothing that is installed: only what its own job is told is left to show
   installs-nothing : (h : History V) (row : List ℕ) (a : Event V V ℕ) → Explained h row →
       ((z c : ℕ) → installs (projection (a ∷ h) z) c ≡ installs (projection h z) c) → ((c : ℕ) → committedValue first (a ∷ h) c ≡ committedValue first h c) →
       ((y : ℕ) (ea : List ℕ) → Extends row (y ∷ ea) → observes (leftBy (projection h) first ea) (projection (a ∷ h) y) ≡ observed (projection (a ∷ h) y)) → Explained (a ∷ h) row
@@ -111,18 +111,18 @@ module _ {V : Type 0} (first : ℕ → V) where
     so-left = λ c. left-by-same (projection (a ∷ h)) (projection h) c row (λ z eb _. same z c) ∙ (ih .so-left c ∙ sym (stand c));
   }
 
-  -- a read: y stands before all who had committed the cell, so what is left before y is what stands
+  -- a read: y stands before all who had committed the cell, so what the jobs before y leave is the committed value
   read-step : (h : History V) (row : List ℕ) (x c : ℕ) (v : V) → WellFormed (by x (reads c v) ∷ h) → NoBreach (by x (reads c v) ∷ h) row → Explained h row →
       v ≡ orElse (buffered (projection h x) c) (committedValue first h c) → (ea : List ℕ) → Extends row (x ∷ ea) → orElse (buffered (projection h x) c) (leftBy (projection h) first ea c) ≡ v
   unfolding NoBreach
-  read-step h row x c v pr resp ih true-told ea s = go (buffered (projection h x) c) refl true-told
+  read-step h row x c v wf resp ih current ea s = go (buffered (projection h x) c) refl current
     where
       nobody : buffered (projection h x) c ≡ None → (z : ℕ) (eb : List ℕ) → Extends row (z ∷ eb) → Extends eb (x ∷ ea) → (o : Option V) → installs (projection h z) c ≡ o → installs (projection h z) c ≡ None
       nobody q z eb t u None e = e
-      nobody q z eb t u (Some w) e = absurd (resp z eb x ea t u (committed-read {c = c} {v = v} here (unbuffered-unwritten h x c q) (installed-committed h (pr .1) z c w e)))
+      nobody q z eb t u (Some w) e = absurd (resp z eb x ea t u (committed-read {c = c} {v = v} here (unbuffered-unwritten h x c q) (installed-committed h (wf .1) z c w e)))
 
       mine : installs (projection h x) c ≡ None
-      mine = rw (active-uncommitted h (pr .1) x (pr .0))
+      mine = rw (active-uncommitted h (wf .1) x (wf .0))
 
       go : (o : Option V) → buffered (projection h x) c ≡ o → v ≡ orElse o (committedValue first h c) → orElse o (leftBy (projection h) first ea c) ≡ v
       go (Some w) q e = sym e
@@ -131,7 +131,7 @@ module _ {V : Type 0} (first : ℕ → V) where
   -- a commit: x stands after all who had committed one of its cells, and after all who had read one first-hand
   commit-step : (h : History V) (row : List ℕ) (x p : ℕ) → WellFormed (by x (commits p) ∷ h) → Once row → In x row → NoBreach (by x (commits p) ∷ h) row → Explained h row → Explained (by x (commits p) ∷ h) row
   unfolding NoBreach
-  commit-step h row x p pr once (ex, sx) resp ih = record {
+  commit-step h row x p wf once (ex, sx) resp ih = record {
     so-observed = λ y ea s. either (λ k. observes (leftBy new first ea) k ≡ observed k) (eqb x y) (keeps y ea s) (keeps y ea s);
     so-left = λ c. ends c (buffered (projection h x) c) refl;
   }
@@ -150,7 +150,7 @@ module _ {V : Type 0} (first : ℕ → V) where
       nobody : (c : ℕ) (v : V) → buffered (projection h x) c ≡ Some v → (z : ℕ) (eb : List ℕ) → Extends row (z ∷ eb) → Extends eb (x ∷ ex) → (b : Bool) → eqb x z ≡ b → (o : Option V) → installs (projection h z) c ≡ o → installs (cond b (commits p ∷ projection h z) (projection h z)) c ≡ None
       nobody c v q z eb t u true e o k = absurd (once x (eb, rw (eqb-true x z e) t, (ex, u)))
       nobody c v q z eb t u false e None k = k
-      nobody c v q z eb t u false e (Some w) k = absurd (resp z eb x ex t u (committed-committed (occurs-here h (commits p) x x refl) (buffered-wrote h x c v q) (installed-committed h (pr .1) z c w k)))
+      nobody c v q z eb t u false e (Some w) k = absurd (resp z eb x ex t u (committed-committed (occurs-here h (commits p) x x refl) (buffered-wrote h x c v q) (installed-committed h (wf .1) z c w k)))
 
       ends : (c : ℕ) (o : Option V) → buffered (projection h x) c ≡ o → leftBy new first row c ≡ orElse (buffered (projection h x) c) (committedValue first h c)
       ends c None q = left-by-same new (projection h) c row (λ z eb t. commit-installs h x p z c (λ e. rw (← e) q)) ∙ (ih .so-left c ∙ ap (λ o. orElse o (committedValue first h c)) (sym q))
@@ -158,24 +158,24 @@ module _ {V : Type 0} (first : ℕ → V) where
 
   explain : (h : History V) (row : List ℕ) → Once row → WellFormed h → ReadsCurrent first h → HasCommitted h row → NoBreach h row → Explained h row
   unfolding HasCommitted
-  explain [] row o pr tr w r = record { so-observed = λ y ea s. refl; so-left = λ c. left-by-none c row }
-  explain (by x opens ∷ h) row o pr tr w r =
-      let ih = explain h row o (pr .1) tr (has-committed-tail (by x opens) h row w) (no-breach-tail (by x opens) h row r) in
+  explain [] row o wf rc w r = record { so-observed = λ y ea s. refl; so-left = λ c. left-by-none c row }
+  explain (by x opens ∷ h) row o wf rc w r =
+      let ih = explain h row o (wf .1) rc (has-committed-tail (by x opens) h row w) (no-breach-tail (by x opens) h row r) in
       installs-nothing h row (by x opens) ih (λ z c. either (λ k. installs k c ≡ installs (projection h z) c) (eqb x z) refl refl) (λ c. refl)
       (λ y ea s. either (λ k. observes (leftBy (projection h) first ea) k ≡ observed k) (eqb x y) (ih .so-observed y ea s) (ih .so-observed y ea s))
-  explain (by x (reads c v) ∷ h) row o pr tr w r =
-      let ih = explain h row o (pr .1) (tr .1) (has-committed-tail (by x (reads c v)) h row w) (no-breach-tail (by x (reads c v)) h row r) in
+  explain (by x (reads c v) ∷ h) row o wf rc w r =
+      let ih = explain h row o (wf .1) (rc .1) (has-committed-tail (by x (reads c v)) h row w) (no-breach-tail (by x (reads c v)) h row r) in
       installs-nothing h row (by x (reads c v)) ih (λ z c. either (λ k. installs k c ≡ installs (projection h z) c) (eqb x z) refl refl) (λ c. refl)
-      (λ y ea s. either-eq (λ k. observes (leftBy (projection h) first ea) k ≡ observed k) x y (λ e. ap₂ _∷_ (rw (← e) (read-step h row x c v pr r ih (tr .0) ea (rw e s))) (ih .so-observed y ea s)) (ih .so-observed y ea s))
-  explain (by x (writes c v) ∷ h) row o pr tr w r =
-      let ih = explain h row o (pr .1) tr (has-committed-tail (by x (writes c v)) h row w) (no-breach-tail (by x (writes c v)) h row r) in
-      installs-nothing h row (by x (writes c v)) ih (λ z k. write-installs h x c z k v (eqb x z) refl (active-uncommitted h (pr .1) x (pr .0))) (λ c. refl)
+      (λ y ea s. either-eq (λ k. observes (leftBy (projection h) first ea) k ≡ observed k) x y (λ e. ap₂ _∷_ (rw (← e) (read-step h row x c v wf r ih (rc .0) ea (rw e s))) (ih .so-observed y ea s)) (ih .so-observed y ea s))
+  explain (by x (writes c v) ∷ h) row o wf rc w r =
+      let ih = explain h row o (wf .1) rc (has-committed-tail (by x (writes c v)) h row w) (no-breach-tail (by x (writes c v)) h row r) in
+      installs-nothing h row (by x (writes c v)) ih (λ z k. write-installs h x c z k v (eqb x z) refl (active-uncommitted h (wf .1) x (wf .0))) (λ c. refl)
       (λ y ea s. either (λ k. observes (leftBy (projection h) first ea) k ≡ observed k) (eqb x y) (ih .so-observed y ea s) (ih .so-observed y ea s))
-  explain (by x (commits p) ∷ h) row o pr tr w r =
-      let ih = explain h row o (pr .1) tr (has-committed-tail (by x (commits p)) h row w) (no-breach-tail (by x (commits p)) h row r) in
-      commit-step h row x p pr o (w x (rw (eq-eqb x x refl))) r ih
-  explain (by x (abandons p) ∷ h) row o pr tr w r =
-      let ih = explain h row o (pr .1) tr (has-committed-tail (by x (abandons p)) h row w) (no-breach-tail (by x (abandons p)) h row r) in
+  explain (by x (commits p) ∷ h) row o wf rc w r =
+      let ih = explain h row o (wf .1) rc (has-committed-tail (by x (commits p)) h row w) (no-breach-tail (by x (commits p)) h row r) in
+      commit-step h row x p wf o (w x (rw (eq-eqb x x refl))) r ih
+  explain (by x (abandons p) ∷ h) row o wf rc w r =
+      let ih = explain h row o (wf .1) rc (has-committed-tail (by x (abandons p)) h row w) (no-breach-tail (by x (abandons p)) h row r) in
       installs-nothing h row (by x (abandons p)) ih (λ z c. either (λ k. installs k c ≡ installs (projection h z) c) (eqb x z) refl refl) (λ c. refl)
       (λ y ea s. either (λ k. observes (leftBy (projection h) first ea) k ≡ observed k) (eqb x y) (ih .so-observed y ea s) (ih .so-observed y ea s))
 
@@ -185,4 +185,4 @@ module _ {V : Type 0} (first : ℕ → V) where
 
   pub respectful-explains : (h : History V) (row : List ℕ) → WellFormed h → ReadsCurrent first h → Respects h row → Explains first h row
   unfolding HasCommitted
-  respectful-explains h row pr tr k = let so = explain h row (k .once) pr tr (k .all-committed) (no-breach h row k) in record { same-observed = so .so-observed; same-left = so .so-left }
+  respectful-explains h row wf rc k = let so = explain h row (k .once) wf rc (k .all-committed) (no-breach h row k) in record { same-observed = so .so-observed; same-left = so .so-left }

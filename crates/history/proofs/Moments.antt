@@ -1,4 +1,4 @@
--- What the stories say of the history: from a job's own deeds to the moments at which it did them.
+-- What a projection says of the history: from a job's own operations to the moments at which they occur.
 use mathlib.Core.Path.{_≡_, refl, sym, ap, subst, _∙_}
 use mathlib.Core.List.{List, [], _∷_}
 use mathlib.Core.Bool.{Bool, true, false, cond}
@@ -10,7 +10,7 @@ use Rattle.std.proofs.shelf.Tests.{eqb-true, eq-eqb, ne-eqb, both-ways}
 use Rattle.std.specs.declared.option.Option.{Option}
 use Rattle.std.specs.declared.option.Option.the-variants.{Some, None}
 use native.Mathlib.Decide.{decLe}
-use Rattle.history.specs.Events.{Operation, Event, History, openings}
+use Rattle.history.specs.Events.{Operation, Event, Events, History, openings}
 use Rattle.history.specs.Events.Operation.{opens, reads, writes, commits, abandons}
 use Rattle.history.specs.Events.Event.{by}
 use Rattle.history.specs.Projections.{projection, buffered, isCommitted, isActive, WellFormed}
@@ -25,6 +25,12 @@ none-some v e = let z : _≡_ {A = ℕ} 0 1 = cc in absurd (omega arith)
 pub occurs-here : {V : Type 0} (h : History V) (d : Operation V V ℕ) (y x : ℕ) → y ≡ x → Occurs (by y d ∷ h) x d h
 occurs-here h d y x e = subst (λ z. Extends (by y d ∷ h) (by z d ∷ h)) e here
 
+pub precedes-later : {V R P : Type 0} (a : Event V R P) {h : Events V R P} {x y : ℕ} → Precedes h x y → Precedes (a ∷ h) x y
+precedes-later a (real-time d e) = real-time (later d) e
+precedes-later a (committed-read d n e) = committed-read (later d) n e
+precedes-later a (read-committed d w e) = read-committed (later d) w e
+precedes-later a (committed-committed d w e) = committed-committed (later d) w e
+
 module _ {V : Type 0} where
   pub wrote-later : (a : Event V V ℕ) {h : History V} {x c : ℕ} → Wrote h x c → Wrote (a ∷ h) x c
   wrote-later a w = record { value = w .value; before = w .before; occurs = later (w .occurs) }
@@ -35,13 +41,7 @@ module _ {V : Type 0} where
   pub committed-later : (a : Event V V ℕ) {h : History V} {x c : ℕ} → CommittedCell h x c → CommittedCell (a ∷ h) x c
   committed-later a w = record { place = w .place; before = w .before; occurs = later (w .occurs); wrote = w .wrote }
 
-  pub precedes-later : (a : Event V V ℕ) {h : History V} {x y : ℕ} → Precedes h x y → Precedes (a ∷ h) x y
-  precedes-later a (real-time d e) = real-time (later d) e
-  precedes-later a (committed-read d n e) = committed-read (later d) n e
-  precedes-later a (read-committed d w e) = read-committed (later d) w e
-  precedes-later a (committed-committed d w e) = committed-committed (later d) w e
-
-  -- a held value was written
+  -- a buffered value was written
   wrote-step : (y x c : ℕ) (h : History V) (d : Operation V V ℕ) (b : Bool) (v : V) → eqb y x ≡ b → ((w : V) → buffered (projection h x) c ≡ Some w → Wrote h x c) → buffered (cond b (d ∷ projection h x) (projection h x)) c ≡ Some v → Wrote (by y d ∷ h) x c
   wrote-step y x c h d false v e ih q = wrote-later (by y d) (ih v q)
   wrote-step y x c h opens true v e ih q = wrote-later (by y opens) (ih v q)
@@ -58,7 +58,7 @@ module _ {V : Type 0} where
   buffered-wrote [] x c v q = none-some v q
   buffered-wrote (by y d ∷ h) x c v q = wrote-step y x c h d (eqb y x) v refl (buffered-wrote h x c) q
 
-  -- what was written is held
+  -- what was written is buffered
   IsBuffered : List (Operation V V ℕ) → ℕ → Type 0
   IsBuffered s c = (w : V) × (buffered s c ≡ Some w)
 
@@ -84,7 +84,7 @@ module _ {V : Type 0} where
   unfolding IsBuffered
   unbuffered-unwritten h x c q w = let k = buffered-when-written x c (w .value) (w .before) h (w .occurs) in none-some (k .0) (sym q ∙ k .1)
 
-  -- a job that has opened nothing yet has no story
+  -- a job that has not opened has an empty projection
   active-numbered : (h : History V) (y : ℕ) → ((x : ℕ) → openings h < x → projection h x ≡ []) → isActive (projection h y) ≡ true → (x : ℕ) → openings h < x → (y ≡ x → ⊥)
   active-numbered h y fr o x l e = both-ways (isActive (projection h y)) (ap isActive (fr y (rw e l))) o
 
@@ -92,45 +92,45 @@ module _ {V : Type 0} where
   projection-other y x h d n q = rw (ne-eqb y x n) q
 
   pub unopened-projection : (h : History V) → WellFormed h → (x : ℕ) → openings h < x → projection h x ≡ []
-  unopened-projection [] pr x l = refl
-  unopened-projection (by y opens ∷ h) pr x l = projection-other y x h opens (λ e. omega arith) (unopened-projection h (pr .1) x (omega arith))
-  unopened-projection (by y (reads c v) ∷ h) pr x l = projection-other y x h (reads c v) (active-numbered h y (unopened-projection h (pr .1)) (pr .0) x l) (unopened-projection h (pr .1) x l)
-  unopened-projection (by y (writes c v) ∷ h) pr x l = projection-other y x h (writes c v) (active-numbered h y (unopened-projection h (pr .1)) (pr .0) x l) (unopened-projection h (pr .1) x l)
-  unopened-projection (by y (commits c) ∷ h) pr x l = projection-other y x h (commits c) (active-numbered h y (unopened-projection h (pr .1)) (pr .0) x l) (unopened-projection h (pr .1) x l)
-  unopened-projection (by y (abandons c) ∷ h) pr x l = projection-other y x h (abandons c) (active-numbered h y (unopened-projection h (pr .1)) (pr .0) x l) (unopened-projection h (pr .1) x l)
+  unopened-projection [] wf x l = refl
+  unopened-projection (by y opens ∷ h) wf x l = projection-other y x h opens (λ e. omega arith) (unopened-projection h (wf .1) x (omega arith))
+  unopened-projection (by y (reads c v) ∷ h) wf x l = projection-other y x h (reads c v) (active-numbered h y (unopened-projection h (wf .1)) (wf .0) x l) (unopened-projection h (wf .1) x l)
+  unopened-projection (by y (writes c v) ∷ h) wf x l = projection-other y x h (writes c v) (active-numbered h y (unopened-projection h (wf .1)) (wf .0) x l) (unopened-projection h (wf .1) x l)
+  unopened-projection (by y (commits c) ∷ h) wf x l = projection-other y x h (commits c) (active-numbered h y (unopened-projection h (wf .1)) (wf .0) x l) (unopened-projection h (wf .1) x l)
+  unopened-projection (by y (abandons c) ∷ h) wf x l = projection-other y x h (abandons c) (active-numbered h y (unopened-projection h (wf .1)) (wf .0) x l) (unopened-projection h (wf .1) x l)
 
-  -- an open job has not committed
+  -- an active job has not committed
   pub well-formed-tail : (a : Event V V ℕ) (h : History V) → WellFormed (a ∷ h) → WellFormed h
-  well-formed-tail (by y opens) h pr = pr .1
-  well-formed-tail (by y (reads c v)) h pr = pr .1
-  well-formed-tail (by y (writes c v)) h pr = pr .1
-  well-formed-tail (by y (commits c)) h pr = pr .1
-  well-formed-tail (by y (abandons c)) h pr = pr .1
+  well-formed-tail (by y opens) h wf = wf .1
+  well-formed-tail (by y (reads c v)) h wf = wf .1
+  well-formed-tail (by y (writes c v)) h wf = wf .1
+  well-formed-tail (by y (commits c)) h wf = wf .1
+  well-formed-tail (by y (abandons c)) h wf = wf .1
 
-  open-step : (y x : ℕ) (h : History V) (d : Operation V V ℕ) (b : Bool) → eqb y x ≡ b → WellFormed (by y d ∷ h) → (isActive (projection h x) ≡ true → isCommitted (projection h x) ≡ false) → isActive (cond b (d ∷ projection h x) (projection h x)) ≡ true → isCommitted (cond b (d ∷ projection h x) (projection h x)) ≡ false
-  open-step y x h d false e pr ih o = ih o
-  open-step y x h opens true e pr ih o = ap isCommitted (unopened-projection h (pr .1) x (omega (arith, eqb-true y x e)))
-  open-step y x h (reads c v) true e pr ih o = ih o
-  open-step y x h (writes c v) true e pr ih o = ih o
-  open-step y x h (commits c) true e pr ih o = sym o
-  open-step y x h (abandons c) true e pr ih o = absurd (both-ways false refl o)
+  active-step : (y x : ℕ) (h : History V) (d : Operation V V ℕ) (b : Bool) → eqb y x ≡ b → WellFormed (by y d ∷ h) → (isActive (projection h x) ≡ true → isCommitted (projection h x) ≡ false) → isActive (cond b (d ∷ projection h x) (projection h x)) ≡ true → isCommitted (cond b (d ∷ projection h x) (projection h x)) ≡ false
+  active-step y x h d false e wf ih o = ih o
+  active-step y x h opens true e wf ih o = ap isCommitted (unopened-projection h (wf .1) x (omega (arith, eqb-true y x e)))
+  active-step y x h (reads c v) true e wf ih o = ih o
+  active-step y x h (writes c v) true e wf ih o = ih o
+  active-step y x h (commits c) true e wf ih o = sym o
+  active-step y x h (abandons c) true e wf ih o = absurd (both-ways false refl o)
 
   pub active-uncommitted : (h : History V) → WellFormed h → (x : ℕ) → isActive (projection h x) ≡ true → isCommitted (projection h x) ≡ false
-  active-uncommitted [] pr x o = refl
-  active-uncommitted (by y d ∷ h) pr x o = open-step y x h d (eqb y x) refl pr (active-uncommitted h (well-formed-tail (by y d) h pr) x) o
+  active-uncommitted [] wf x o = refl
+  active-uncommitted (by y d ∷ h) wf x o = active-step y x h d (eqb y x) refl wf (active-uncommitted h (well-formed-tail (by y d) h wf) x) o
 
-  -- what a job puts into a cell it has committed
+  -- what a job installs it has committed
   installs-step : (y x c : ℕ) (h : History V) (d : Operation V V ℕ) (b : Bool) (v : V) → eqb y x ≡ b → WellFormed (by y d ∷ h) → ((w : V) → installs (projection h x) c ≡ Some w → CommittedCell h x c) → installs (cond b (d ∷ projection h x) (projection h x)) c ≡ Some v → CommittedCell (by y d ∷ h) x c
-  installs-step y x c h d false v e pr ih q = committed-later (by y d) (ih v q)
-  installs-step y x c h opens true v e pr ih q = committed-later (by y opens) (ih v q)
-  installs-step y x c h (reads k w) true v e pr ih q = committed-later (by y (reads k w)) (ih v q)
-  installs-step y x c h (writes k w) true v e pr ih q = none-some v (rw (active-uncommitted h (pr .1) x (rw (eqb-true y x e) at (pr .0))) at q)
-  installs-step y x c h (commits p) true v e pr ih q = record { place = p; before = h; occurs = occurs-here h (commits p) y x (eqb-true y x e); wrote = buffered-wrote h x c v q }
-  installs-step y x c h (abandons p) true v e pr ih q = committed-later (by y (abandons p)) (ih v q)
+  installs-step y x c h d false v e wf ih q = committed-later (by y d) (ih v q)
+  installs-step y x c h opens true v e wf ih q = committed-later (by y opens) (ih v q)
+  installs-step y x c h (reads k w) true v e wf ih q = committed-later (by y (reads k w)) (ih v q)
+  installs-step y x c h (writes k w) true v e wf ih q = none-some v (rw (active-uncommitted h (wf .1) x (rw (eqb-true y x e) at (wf .0))) at q)
+  installs-step y x c h (commits p) true v e wf ih q = record { place = p; before = h; occurs = occurs-here h (commits p) y x (eqb-true y x e); wrote = buffered-wrote h x c v q }
+  installs-step y x c h (abandons p) true v e wf ih q = committed-later (by y (abandons p)) (ih v q)
 
   pub installed-committed : (h : History V) → WellFormed h → (x c : ℕ) (v : V) → installs (projection h x) c ≡ Some v → CommittedCell h x c
-  installed-committed [] pr x c v q = none-some v q
-  installed-committed (by y d ∷ h) pr x c v q = installs-step y x c h d (eqb y x) v refl pr (installed-committed h (well-formed-tail (by y d) h pr) x c) q
+  installed-committed [] wf x c v q = none-some v q
+  installed-committed (by y d ∷ h) wf x c v q = installs-step y x c h d (eqb y x) v refl wf (installed-committed h (well-formed-tail (by y d) h wf) x c) q
 
   -- a job's first-hand reads
   abbrev pub FirstHand : List (Operation V V ℕ) → ℕ → Type 0
@@ -158,21 +158,21 @@ module _ {V : Type 0} where
   active-not-zero h y z o e = both-ways (isActive (projection h y)) (rw e (ap isActive z)) o
 
   pub projection-zero : (h : History V) → WellFormed h → projection h 0 ≡ []
-  projection-zero [] pr = refl
-  projection-zero (by y opens ∷ h) pr = projection-other y 0 h opens (λ e. omega arith) (projection-zero h (pr .1))
-  projection-zero (by y (reads c v) ∷ h) pr = projection-other y 0 h (reads c v) (active-not-zero h y (projection-zero h (pr .1)) (pr .0)) (projection-zero h (pr .1))
-  projection-zero (by y (writes c v) ∷ h) pr = projection-other y 0 h (writes c v) (active-not-zero h y (projection-zero h (pr .1)) (pr .0)) (projection-zero h (pr .1))
-  projection-zero (by y (commits p) ∷ h) pr = projection-other y 0 h (commits p) (active-not-zero h y (projection-zero h (pr .1)) (pr .0)) (projection-zero h (pr .1))
-  projection-zero (by y (abandons p) ∷ h) pr = projection-other y 0 h (abandons p) (active-not-zero h y (projection-zero h (pr .1)) (pr .0)) (projection-zero h (pr .1))
+  projection-zero [] wf = refl
+  projection-zero (by y opens ∷ h) wf = projection-other y 0 h opens (λ e. omega arith) (projection-zero h (wf .1))
+  projection-zero (by y (reads c v) ∷ h) wf = projection-other y 0 h (reads c v) (active-not-zero h y (projection-zero h (wf .1)) (wf .0)) (projection-zero h (wf .1))
+  projection-zero (by y (writes c v) ∷ h) wf = projection-other y 0 h (writes c v) (active-not-zero h y (projection-zero h (wf .1)) (wf .0)) (projection-zero h (wf .1))
+  projection-zero (by y (commits p) ∷ h) wf = projection-other y 0 h (commits p) (active-not-zero h y (projection-zero h (wf .1)) (wf .0)) (projection-zero h (wf .1))
+  projection-zero (by y (abandons p) ∷ h) wf = projection-other y 0 h (abandons p) (active-not-zero h y (projection-zero h (wf .1)) (wf .0)) (projection-zero h (wf .1))
 
-  -- a job with a story has a number from 1 up to the count of openings
+  -- a committed job has a number from 1 up to the count of openings
   pub committed-numbered : (h : History V) → WellFormed h → (x : ℕ) → isCommitted (projection h x) ≡ true → (1 ≤ x) × (x ≤ openings h)
-  committed-numbered h pr x q = (low x q, high (decLe x (openings h)))
+  committed-numbered h wf x q = (low x q, high (decLe x (openings h)))
     where
       low : (x : ℕ) → isCommitted (projection h x) ≡ true → 1 ≤ x
-      low zero q = absurd (both-ways (isCommitted (projection h 0)) (ap isCommitted (projection-zero h pr)) q)
+      low zero q = absurd (both-ways (isCommitted (projection h 0)) (ap isCommitted (projection-zero h wf)) q)
       low (suc x) q = omega arith
 
       high : Dec (x ≤ openings h) → x ≤ openings h
       high (yes l) = l
-      high (no n) = absurd (both-ways (isCommitted (projection h x)) (ap isCommitted (unopened-projection h pr x (omega arith))) q)
+      high (no n) = absurd (both-ways (isCommitted (projection h x)) (ap isCommitted (unopened-projection h wf x (omega arith))) q)

@@ -1,3 +1,4 @@
+-- Bounds that move as they should agree with the history at every moment, so that a run is opaque.
 use mathlib.Core.List.{List, [], _∷_}
 use mathlib.Core.Bool.{cond}
 use Prim.Native.Nat.{ℕ, suc, _≤_}
@@ -29,13 +30,13 @@ nothing-precedes (read-committed s n e) = extends-nothing s
 nothing-precedes (committed-committed s n e) = extends-nothing s
 
 pub tracked : {V : Type 0} (top : ℕ) {h : History V} {b : Bounds} → 2 ≤ top → WellFormed h → BoundsRun top h b → Tracked h b
-tracked top t pr starts = record {
+tracked top t wf starts = record {
   placed = record { apart = λ x y ne k. absurd (nothing-precedes k); room = λ x e. omega arith };
   below-highest = λ x p e. none-some p e;
   below-written = λ x c p k e. none-some p e;
   below-read = λ x c p k e. none-some p e;
 }
-tracked top t pr (goes-on {h = h} {b = b} {x = x} {o = d} {b′ = b′} r m) = tracked-step h b x d b′ pr (tracked top t (well-formed-tail (by x d) h pr) r) m
+tracked top t wf (goes-on {h = h} {b = b} {x = x} {o = d} {b′ = b′} r m) = tracked-step h b x d b′ wf (tracked top t (well-formed-tail (by x d) h wf) r) m
 
 bounds-run-step : {V : Type 0} (top : ℕ) (run : History V) (b : Bounds) (w : ℕ) (d : Operation V V ℕ) (b′ : Bounds) → 2 ≤ top → WellMade (by w d ∷ run) → CrewMoves top run b w d b′ → BoundsRun top (byJobs run) (boundsByJob top run b) → BoundsRun top (byJobs (by w d ∷ run)) (boundsByJob top (by w d ∷ run) b′)
 bounds-run-step top run b w opens b′ t wm m r = BoundsRun.goes-on r (moves-open top run b w b′ t wm m)

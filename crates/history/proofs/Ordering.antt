@@ -1,4 +1,4 @@
--- Sorted by their places, the jobs stand in a lawful order.
+-- Sorted by their places, the jobs stand in a serialization order.
 use mathlib.Core.Path.{_≡_, refl, sym}
 use mathlib.Core.List.{List, [], _∷_}
 use mathlib.Core.Bool.{Bool, true, false, cond}
@@ -30,7 +30,7 @@ module _ (key : ℕ → ℕ) where
   arrange zero = []
   arrange (suc n) = insert (suc n) (arrange n)
 
-  -- the same things said of the head and the rest
+  -- the same, said of the head and the rest
   abbrev pub Sorted : List ℕ → Type 0
   Sorted [] = Unit {0}
   Sorted (y ∷ r) = ((x : ℕ) → In x r → key x ≤ key y) × Sorted r
@@ -169,7 +169,7 @@ module _ {V : Type 0} (h : History V) (low high : ℕ → ℕ) (pl : Placed h lo
       n = openings h
 
 pub order-respects : {V : Type 0} (h : History V) (row : List ℕ) → WellFormed h → SerializationOrder h row → Respects h row
-order-respects h row pr l = record { once = l .once; rules = l .rules; all-committed = λ x q. let n = committed-numbered h pr x q in l .all x (n .0) (n .1) }
+order-respects h row wf l = record { once = l .once; rules = l .rules; all-committed = λ x q. let n = committed-numbered h wf x q in l .all x (n .0) (n .1) }
 
 pub orders-explain : {V : Type 0} (first : ℕ → V) (h : History V) (row : List ℕ) → WellFormed h → ReadsCurrent first h → SerializationOrder h row → SeriallyExplained first h row
 orders-explain first h row wf rc l = respectful-orders-explain first h row wf rc (order-respects h row wf l)

@@ -1,4 +1,4 @@
--- The two directions.
+-- Permissiveness, both ways: the positions in a serialization order are accepted as places, and what is accepted has a serialization order.
 use mathlib.Core.Path.{_≡_, subst}
 use mathlib.Core.List.{List, [], _∷_}
 use mathlib.Core.Logic.{_⊎_, inl, inr, _↔_}
@@ -23,32 +23,32 @@ module _ {V R P : Type 0} where
   abbrev Numbered : Events V R P → ℕ → Type 0
   Numbered cs x = (1 ≤ x) × (x ≤ openings cs)
 
-  -- who has done something is a job of the list
-  last-or : (n j x : ℕ) {d e : Operation V R P} {h g : Events V R P} → (1 ≤ j) × (j ≤ n) → (Extends h (by x e ∷ g) → (1 ≤ x) × (x ≤ n)) → Extends (by j d ∷ h) (by x e ∷ g) → (1 ≤ x) × (x ≤ n)
-  last-or n j x k f here = k
-  last-or n j x k f (later s) = f s
+  -- whoever has an event is a job of the list
+  last-or-earlier : (n j x : ℕ) {d e : Operation V R P} {h g : Events V R P} → (1 ≤ j) × (j ≤ n) → (Extends h (by x e ∷ g) → (1 ≤ x) × (x ≤ n)) → Extends (by j d ∷ h) (by x e ∷ g) → (1 ≤ x) × (x ≤ n)
+  last-or-earlier n j x k f here = k
+  last-or-earlier n j x k f (later s) = f s
 
   occurs-numbered : (cs : Events V R P) → WellMade cs → (x : ℕ) {d : Operation V R P} {g : Events V R P} → Extends (byJobs cs) (by x d ∷ g) → Numbered cs x
   occurs-numbered [] wm x s = elim s [ ]
-  occurs-numbered (by w opens ∷ cs) wm x s = last-or (suc (openings cs)) (suc (openings cs)) x (omega arith, omega arith) (λ t. let k = occurs-numbered cs (wm .1) x t in (k .0, omega arith)) s
-  occurs-numbered (by w (reads c v) ∷ cs) wm x s = last-or (openings cs) (openJob cs w) x (wm .0, open-job-numbered cs w) (λ t. occurs-numbered cs (wm .1) x t) s
-  occurs-numbered (by w (writes c v) ∷ cs) wm x s = last-or (openings cs) (openJob cs w) x (wm .0, open-job-numbered cs w) (λ t. occurs-numbered cs (wm .1) x t) s
-  occurs-numbered (by w (commits p) ∷ cs) wm x s = last-or (openings cs) (openJob cs w) x (wm .0, open-job-numbered cs w) (λ t. occurs-numbered cs (wm .1) x t) s
-  occurs-numbered (by w (abandons p) ∷ cs) wm x s = last-or (openings cs) (openJob cs w) x (wm .0, open-job-numbered cs w) (λ t. occurs-numbered cs (wm .1) x t) s
+  occurs-numbered (by w opens ∷ cs) wm x s = last-or-earlier (suc (openings cs)) (suc (openings cs)) x (omega arith, omega arith) (λ t. let k = occurs-numbered cs (wm .1) x t in (k .0, omega arith)) s
+  occurs-numbered (by w (reads c v) ∷ cs) wm x s = last-or-earlier (openings cs) (openJob cs w) x (wm .0, open-job-numbered cs w) (λ t. occurs-numbered cs (wm .1) x t) s
+  occurs-numbered (by w (writes c v) ∷ cs) wm x s = last-or-earlier (openings cs) (openJob cs w) x (wm .0, open-job-numbered cs w) (λ t. occurs-numbered cs (wm .1) x t) s
+  occurs-numbered (by w (commits p) ∷ cs) wm x s = last-or-earlier (openings cs) (openJob cs w) x (wm .0, open-job-numbered cs w) (λ t. occurs-numbered cs (wm .1) x t) s
+  occurs-numbered (by w (abandons p) ∷ cs) wm x s = last-or-earlier (openings cs) (openJob cs w) x (wm .0, open-job-numbered cs w) (λ t. occurs-numbered cs (wm .1) x t) s
 
   module _ (cs : Events V R P) (wm : WellMade cs) where
-    both : {x y : ℕ} {d e : Operation V R P} {g k : Events V R P} → Extends (byJobs cs) (by y d ∷ g) → Extends g (by x e ∷ k) → Numbered cs x × Numbered cs y
-    both {x = x} {y = y} s t = (occurs-numbered cs wm x (extends-trans s (later t)), occurs-numbered cs wm y s)
+    both-numbered : {x y : ℕ} {d e : Operation V R P} {g k : Events V R P} → Extends (byJobs cs) (by y d ∷ g) → Extends g (by x e ∷ k) → Numbered cs x × Numbered cs y
+    both-numbered {x = x} {y = y} s t = (occurs-numbered cs wm x (extends-trans s (later t)), occurs-numbered cs wm y s)
 
     precedes-numbered : {x y : ℕ} → Precedes (byJobs cs) x y → Numbered cs x × Numbered cs y
     precedes-numbered {x = x} {y = y} (real-time {g = g} s e) = go (e .occurs)
       where
         go : Occurs g x (commits (e .place)) (e .before) ⊎ Occurs g x (abandons (e .place)) (e .before) → Numbered cs x × Numbered cs y
-        go (inl t) = both s t
-        go (inr t) = both s t
-    precedes-numbered (committed-read s n e) = both s (e .occurs)
-    precedes-numbered (read-committed s w e) = both s (e .occurs)
-    precedes-numbered (committed-committed s w e) = both s (e .occurs)
+        go (inl t) = both-numbered s t
+        go (inr t) = both-numbered s t
+    precedes-numbered (committed-read s n e) = both-numbered s (e .occurs)
+    precedes-numbered (read-committed s w e) = both-numbered s (e .occurs)
+    precedes-numbered (committed-committed s w e) = both-numbered s (e .occurs)
 
     positions-rise : (top b : ℕ) (row : List ℕ) → b + 2 ≤ top → openings cs ≤ b → SerializationOrder (byJobs cs) row → RisingPlaces top (position row) cs
     positions-rise top b row t entries-suffice l = record { rises = rises; within = within }

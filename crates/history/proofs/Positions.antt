@@ -1,4 +1,4 @@
--- The positions in a row.
+-- The positions in a row: they rise along it, and a row of numbers from 1 to n has at most n.
 use mathlib.Core.Path.{_≡_, refl, sym, subst}
 use mathlib.Core.List.{List, [], _∷_}
 use mathlib.Core.Bool.{Bool, true, false, cond}
