@@ -30,7 +30,7 @@ use Rattle.rules.specs.Contents.{Fits}
 use Rattle.rules.specs.JobCalls.{Outcome, abandonOutcome, abandonedAt, accepted, commitLow, committedAt, crewOf, damaged, isOpening, openOutcome, outcome, raisedLow, readCell, readOwn, refused, testsOf, writeOutcome, wrongCell}
 use Rattle.rules.specs.Limits.{top}
 use Rattle.rules.specs.Performing.{Entered, Performs, movedIf, withBook}
-use Rattle.rules.specs.Refusing.{firstRefusal, ifRefused}
+use Rattle.rules.specs.Refusing.{Tests, firstRefusal, ifRefused}
 use Rattle.rules.specs.Registers.{Register, hasJob, hasWritten, highOf, jobNumber, lowOf, recordOf}
 use Rattle.rules.specs.Tables.{outside}
 use Rattle.rules.specs.declared.calls.Answer.{Answer}
@@ -43,8 +43,9 @@ use Rattle.guarantee.specs.Permissiveness.{IsAccepted}
 use Rattle.guarantee.proofs.Bounding.{commit-low-floor}
 use Rattle.guarantee.proofs.Counting.{busy, busy-at, busy-put, length-cleared, one-no, one-yes}
 use Rattle.guarantee.proofs.Invariant.{tie-book}
+use Rattle.guarantee.proofs.Passing.{None-of, Sized, Working}
 use Rattle.guarantee.proofs.Scripts.{gives-same, next-same}
-use Rattle.guarantee.proofs.Tied.{None-of, Sized, Tie, Tied, Working, of-open, tie-abandon, tie-cell, tie-commit, tie-open, tie-own, tie-write, tied-by-job}
+use Rattle.guarantee.proofs.Tied.{Tie, Tied, of-open, tie-abandon, tie-cell, tie-commit, tie-open, tie-own, tie-write, tied-by-job}
 
 abbrev pub sizes-of : {V : Type 0} → Register V → Sizes
 sizes-of s = record { top = top; cells = s .head .sizes .cells; crews = s .head .sizes .crews; entries = s .head .sizes .entries }
@@ -59,15 +60,15 @@ pub record Abreast {V : Type 0} (d : V) (z : Sizes) (view : RegisterView V) (xs 
   pub active-is : r .head .active ≡ busy (view .job) (r .head .sizes .crews)
   pub means : f ≡ scriptMeaning xs
 
-none-refused : (ts : List (Bool × Refusal)) → None-of ts → firstRefusal ts ≡ None
+none-refused : (ts : Tests) → None-of ts → firstRefusal ts ≡ None
 none-refused [] ns = refl
 none-refused (t ∷ ts) ns = rw (ns .0) (none-refused ts (ns .1))
 
 within : (n k : ℕ) → 1 ≤ k → k ≤ n → outside n k ≡ false
 within n k a b = or-from (eqb k 0) (ltb n k) (ne-eqb k 0 (λ e. omega arith)) (le-ltb n k b)
 
-same-size : (a b : ℕ) → a ≡ b → not (eqb a b) ≡ false
-same-size a b e = not-from-true (eqb a b) (eq-eqb a b e)
+size-passes : (a b : ℕ) → a ≡ b → not (eqb a b) ≡ false
+size-passes a b e = not-from-true (eqb a b) (eq-eqb a b e)
 
 closed-job : (b : Bool) (j : _) (x l h : ℕ) → Tied b j x l h → x ≡ 0 → b ≡ false
 closed-job true j x l h t e = absurd (omega (arith, t .1))
@@ -84,19 +85,19 @@ module _ {V : Type 0} (d : V) (q : Register V) (view : RegisterView V) (xs : Lis
   passes : (k : Call V) → outside (r .head .sizes .crews) (crewOf k) ≡ false → wrongCell (r .head .sizes .cells) k ≡ false → (isOpening k && hasJob r (crewOf k)) ≡ false → (not (isOpening k) && not (hasJob r (crewOf k))) ≡ false → (not (isOpening k) && damaged r (crewOf k)) ≡ false →
       (isOpening k && ltb top (r .head .highest + 2)) ≡ false → (isOpening k && eqb (r .head .ended + r .head .active) (r .head .sizes .entries)) ≡ false → outcome d (f []) r k ≡ accepted d (f []) r k
   passes k a b c e g h i = ap (λ (o : Option Refusal). ifRefused o (λ e. refused e r) (accepted d (f []) r k)) (none-refused (testsOf r k) (
-    same-size _ _ (ab .fits .values),
+    size-passes _ _ (ab .fits .values),
     (
-      same-size _ _ (ab .fits .written),
+      size-passes _ _ (ab .fits .written),
       (
-        same-size _ _ (ab .fits .read),
+        size-passes _ _ (ab .fits .read),
         (
-          same-size _ _ (ab .fits .jobs),
+          size-passes _ _ (ab .fits .jobs),
           (
-            same-size _ _ (ab .fits .own),
+            size-passes _ _ (ab .fits .own),
             (
-              same-size _ _ (ab .fits .flags),
+              size-passes _ _ (ab .fits .flags),
               (
-                same-size _ _ (ab .fits .book),
+                size-passes _ _ (ab .fits .book),
                 (a, (b, (c, (e, (g, (h, (i, tt))))))),
               ),
             ),
@@ -110,16 +111,16 @@ module _ {V : Type 0} (d : V) (q : Register V) (view : RegisterView V) (xs : Lis
   sized w u = record {
     fits = ab .fits;
     from-one = u .0;
-    to-m = rw (ab .m-is) (u .1);
+    to-crews = rw (ab .m-is) (u .1);
   }
 
   working : (w : ℕ) → AtWork z view w → Working r w
   working w k =
       let s = sized w (k .a-crew) in
-      let t = ab .tie .job-is w (s .from-one) (s .to-m) in
+      let t = ab .tie .job-is w (s .from-one) (s .to-crews) in
       let h = tied-by-job (hasJob r w) (recordOf r w) (view .job w) (view .low w) (view .high w) t (k .a-job) in
       let o = of-open d r view (ab .tie) w s h in
-      record { has = h; room = omega (arith, o .2, o .3, k .room); under-top = omega (arith, o .3, k .below-top); counted = rw (ab .active-is) (busy-at (view .job) w (r .head .sizes .crews) (s .from-one) (s .to-m) (k .a-job)) }
+      record { has = h; room = omega (arith, o .2, o .3, k .room); under-top = omega (arith, o .3, k .below-top); counted = rw (ab .active-is) (busy-at (view .job) w (r .head .sizes .crews) (s .from-one) (s .to-crews) (k .a-job)) }
 
   undamaged : (w : ℕ) → Working r w → damaged r w ≡ false
   undamaged w k = or-from (ltb (highOf r w) (lowOf r w + 2)) (ltb top (highOf r w) || eqb (r .head .active) 0) (le-ltb (highOf r w) (lowOf r w + 2) (k .room))
@@ -130,7 +131,7 @@ module _ {V : Type 0} (d : V) (q : Register V) (view : RegisterView V) (xs : Lis
   passes-work k o c a =
       let s = sized (crewOf k) (a .a-crew) in
       let wk = working (crewOf k) a in
-      passes k (within (r .head .sizes .crews) (crewOf k) (s .from-one) (s .to-m)) c (rw o refl) (rw (o, wk .has) refl) (rw (o, undamaged (crewOf k) wk) refl) (rw o refl) (rw o refl)
+      passes k (within (r .head .sizes .crews) (crewOf k) (s .from-one) (s .to-crews)) c (rw o refl) (rw (o, wk .has) refl) (rw (o, undamaged (crewOf k) wk) refl) (rw o refl) (rw o refl)
 
   tied : (left : Register V) (w : ℕ) (e : Operation V V ℕ) → Tie d left (viewAfter top (r .head .sizes .cells) view w e) → Tie d left (viewAfter top (z .cells) view w e)
   tied left w e t = subst (λ (n : ℕ). Tie d left (viewAfter top n view w e)) (ab .n-is) t
@@ -154,9 +155,9 @@ module _ {V : Type 0} (d : V) (q : Register V) (view : RegisterView V) (xs : Lis
   step-open : (w : CrewNumber) → AcceptsWith scriptChooser z xs view (w .0) opens → Done (outcome d (f []) r (Open w)) (viewAfter top (z .cells) view (w .0) opens) xs
   step-open w sv =
       let s = sized (w .0) (sv .0) in
-      let h = closed-job (hasJob r (w .0)) (recordOf r (w .0)) (view .job (w .0)) (view .low (w .0)) (view .high (w .0)) (ab .tie .job-is (w .0) (s .from-one) (s .to-m)) (sv .1) in
+      let h = closed-job (hasJob r (w .0)) (recordOf r (w .0)) (view .job (w .0)) (view .low (w .0)) (view .high (w .0)) (ab .tie .job-is (w .0) (s .from-one) (s .to-crews)) (sv .1) in
       subst (λ (o : Outcome V). Done o (viewAfter top (z .cells) view (w .0) opens) xs)
-      (sym (passes (Open w) (within (r .head .sizes .crews) (w .0) (s .from-one) (s .to-m)) refl h refl refl (le-ltb top (r .head .highest + 2) (omega (arith, ab .tie .highest-is, sv .2))) (ne-eqb (r .head .ended + r .head .active) (r .head .sizes .entries) (λ e. omega (arith, ab .tie .opened-is, ab .b-is, sv .3)))))
+      (sym (passes (Open w) (within (r .head .sizes .crews) (w .0) (s .from-one) (s .to-crews)) refl h refl refl (le-ltb top (r .head .highest + 2) (omega (arith, ab .tie .highest-is, sv .2))) (ne-eqb (r .head .ended + r .head .active) (r .head .sizes .entries) (λ e. omega (arith, ab .tie .opened-is, ab .b-is, sv .3)))))
       (done-open (w .0) (sv .0) (sv .1))
 
   ---- read
@@ -194,7 +195,7 @@ module _ {V : Type 0} (d : V) (q : Register V) (view : RegisterView V) (xs : Lis
       (cond-both (hasWritten r (w .0) (c .0)) _ _ G
       (λ e. done-own (w .0) (c .0) v (sv .0 .a-crew) (sv .1 .0) in-n e)
       (λ e. cond-both (ltb (highOf r (w .0)) (raisedLow r (w .0) (c .0) + 2)) _ _ G
-      (λ l. absurd (omega (arith, ltb-true (highOf r (w .0)) (raisedLow r (w .0) (c .0) + 2) l, sv .3 (sym (ab .tie .writes-are (w .0) (c .0) (s .from-one) (s .to-m) (sv .1 .0) in-n) ∙ e), o .2, o .3, ab .tie .written-is (c .0) (sv .1 .0) in-n)))
+      (λ l. absurd (omega (arith, ltb-true (highOf r (w .0)) (raisedLow r (w .0) (c .0) + 2) l, sv .3 (sym (ab .tie .writes-are (w .0) (c .0) (s .from-one) (s .to-crews) (sv .1 .0) in-n) ∙ e), o .2, o .3, ab .tie .written-is (c .0) (sv .1 .0) in-n)))
       (λ l. done-cell (w .0) (c .0) v (sv .0 .a-crew) wk (sv .1 .0) in-n e)))
     where
       G : Outcome V → Type 0
@@ -237,7 +238,7 @@ module _ {V : Type 0} (d : V) (q : Register V) (view : RegisterView V) (xs : Lis
   ---- endings
 
   ended-active : (w : ℕ) → AtWork z view w → r .head .active - 1 ≡ busy (updated (view .job) w 0) (r .head .sizes .crews)
-  ended-active w k = let s = sized w (k .a-crew) in omega (arith, busy-put (view .job) w 0 (r .head .sizes .crews) (s .from-one) (s .to-m), one-yes (view .job w) (k .a-job), one-no 0 refl, ab .active-is)
+  ended-active w k = let s = sized w (k .a-crew) in omega (arith, busy-put (view .job) w 0 (r .head .sizes .crews) (s .from-one) (s .to-crews), one-yes (view .job w) (k .a-job), one-no 0 refl, ab .active-is)
 
   moved-means : (lo hi : ℕ) → movedIf f (Some (lo, hi)) ≡ scriptMeaning (scriptChooser .next xs lo hi)
   moved-means lo hi = ap (λ (g : Meaning). movedIf g (Some (lo, hi))) (ab .means) ∙ ap scriptMeaning (next-same xs lo hi)
@@ -256,7 +257,7 @@ module _ {V : Type 0} (d : V) (q : Register V) (view : RegisterView V) (xs : Lis
         read = length-each _ 1 (r .tables .read) ∙ ab .fits .read;
         jobs = length-set (r .tables .jobs) (w - 1) _ ∙ ab .fits .jobs;
         own = ab .fits .own;
-        flags = length-cleared (r .tables .flags) (r .head .sizes .cells) (r .head .sizes .crews) w (ab .fits .flags) (s .from-one) (s .to-m) ∙ ab .fits .flags;
+        flags = length-cleared (r .tables .flags) (r .head .sizes .cells) (r .head .sizes .crews) w (ab .fits .flags) (s .from-one) (s .to-crews) ∙ ab .fits .flags;
         book = i .same-length ∙ ab .fits .book;
       };
       n-is = ab .n-is;
@@ -290,7 +291,7 @@ module _ {V : Type 0} (d : V) (q : Register V) (view : RegisterView V) (xs : Lis
         read = length-each _ 1 (r .tables .read) ∙ ab .fits .read;
         jobs = length-set _ (w - 1) _ ∙ (length-each _ 1 (r .tables .jobs) ∙ ab .fits .jobs);
         own = ab .fits .own;
-        flags = length-cleared (r .tables .flags) (r .head .sizes .cells) (r .head .sizes .crews) w (ab .fits .flags) (s .from-one) (s .to-m) ∙ ab .fits .flags;
+        flags = length-cleared (r .tables .flags) (r .head .sizes .cells) (r .head .sizes .crews) w (ab .fits .flags) (s .from-one) (s .to-crews) ∙ ab .fits .flags;
         book = i .same-length ∙ ab .fits .book;
       };
       n-is = ab .n-is;

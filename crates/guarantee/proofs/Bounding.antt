@@ -11,7 +11,8 @@ use Rattle.history.specs.Views.{RegisterView, conflicts}
 use Rattle.rules.specs.JobCalls.{commitLow, otherReader}
 use Rattle.rules.specs.Registers.{Register, hasJob, hasWritten, lowOf, recordOf}
 use Rattle.rules.specs.Tables.{at, most}
-use Rattle.guarantee.proofs.Tied.{Sized, Tie, Tied, Working, of-open, touched}
+use Rattle.guarantee.proofs.Passing.{Sized, Working}
+use Rattle.guarantee.proofs.Tied.{Tie, Tied, of-open, touched}
 
 most-cells : {V : Type 0} (f : ℕ → ℕ) (s : RegisterView V) (w n : ℕ) → ((c : ℕ) → 1 ≤ c → c ≤ n → f c ≡ cond (s .hasWritten w c) (max (s .written c) (s .read c)) 0) → most f n ≡ cellsLowerBound s w n
 most-cells f s w zero h = refl
@@ -41,7 +42,7 @@ module _ {V : Type 0} (d : V) (r : Register V) (s : RegisterView V) (tie : Tie d
       (most-crews (λ u. cond (otherReader r w u) (lowOf r u + 1) 0) (r .head .sizes .cells) s w (r .head .sizes .crews) crew))
     where
       cell : (c : ℕ) → 1 ≤ c → c ≤ r .head .sizes .cells → cond (hasWritten r w c) (max (at (r .tables .written) c 0) (at (r .tables .read) c 0)) 0 ≡ cond (s .hasWritten w c) (max (s .written c) (s .read c)) 0
-      cell c a b = ap₂ (λ (t : Bool) (x : ℕ). cond t x 0) (tie .writes-are w c (z .from-one) (z .to-m) a b) (ap₂ max (tie .written-is c a b) (tie .read-is c a b))
+      cell c a b = ap₂ (λ (t : Bool) (x : ℕ). cond t x 0) (tie .writes-are w c (z .from-one) (z .to-crews) a b) (ap₂ max (tie .written-is c a b) (tie .read-is c a b))
 
       crew : (u : ℕ) → 1 ≤ u → u ≤ r .head .sizes .crews → cond (otherReader r w u) (lowOf r u + 1) 0 ≡ cond (isOpenReader (r .head .sizes .cells) s w u) (s .low u + 1) 0
       crew u a b = ap₂ (λ (t y : Bool). cond (not t && (hasJob r u && y)) (lowOf r u + 1) 0) (eqb-swap w u) (touched d r s tie w z u a b)

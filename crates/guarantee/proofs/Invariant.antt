@@ -31,7 +31,6 @@ use Rattle.rules.specs.JobCalls.{Outcome, abandonOutcome, abandonedAt, accepted
 use Rattle.rules.specs.Limits.{top}
 use Rattle.rules.specs.Making.{JustStarted}
 use Rattle.rules.specs.Performing.{Entered, Inserted, Performs, movedIf, withBook}
-use Rattle.rules.specs.Refusing.{firstRefusal, ifRefused}
 use Rattle.rules.specs.Registers.{Register, flagOf, hasWritten, highOf, isOpen, jobNumber, lowOf, ownOf, recordOf}
 use Rattle.rules.specs.Tables.{at, readFlag, spot, writtenFlag}
 use Rattle.rules.specs.declared.calls.Answer.{Answer}
@@ -41,8 +40,9 @@ use Rattle.rules.proofs.Changing.{inside, spot-in}
 use Rattle.guarantee.specs.Histories.{NumberedSo, operation, operationOf, operationRefused, withOperation}
 use Rattle.guarantee.specs.Opacity.{Names, cellValues, dayBook}
 use Rattle.guarantee.proofs.Booked.{Booked, acting, booked-ended, booked-plain, names-abandon, names-commit}
+use Rattle.guarantee.proofs.Passing.{None-of, Sized, Working, cell-passes, free, outcome-by, sized, working}
 use Rattle.guarantee.proofs.Started.{Fresh, fresh}
-use Rattle.guarantee.proofs.Tied.{None-of, Sized, Tie, Tied, Working, accepts-abandon, accepts-cell, accepts-commit, accepts-open, accepts-own, accepts-write, job-tied, sized, tie-abandon, tie-cell, tie-commit, tie-open, tie-own, tie-write, working}
+use Rattle.guarantee.proofs.Tied.{Tie, Tied, accepts-abandon, accepts-cell, accepts-commit, accepts-open, accepts-own, accepts-write, job-tied, tie-abandon, tie-cell, tie-commit, tie-open, tie-own, tie-write}
 
 pub record Inv {V : Type 0} (d : V) (s : Register V) (run : History V) (r : Register V) (f : Meaning) : Type 0 where
   pub view : RegisterView V
@@ -167,7 +167,7 @@ module _ {V : Type 0} (d : V) (s : Register V) (run : History V) (r : Register V
   reached : (k : Call V) → None-of (testsOf r k) → Reached k (accepted d (f []) r k)
   reached (Open w) ns =
       let z = sized r (Open w) ns in λ bk b. (
-        plain-step (w .0) Operation.opens (openOutcome r (w .0) .left) bk (accepts-open d r (inv .view) (inv .tie) (w .0) z (ns .1 .1 .1 .1 .1 .1 .1 .1 .1 .0) (ns .1 .1 .1 .1 .1 .1 .1 .1 .1 .1 .1 .1 .0)) refl refl refl b (tie-open d r (inv .view) (inv .tie) (w .0) z),
+        plain-step (w .0) Operation.opens (openOutcome r (w .0) .left) bk (accepts-open d r (inv .view) (inv .tie) (w .0) z (free r w ns .no-job) (free r w ns .places-left)) refl refl refl b (tie-open d r (inv .view) (inv .tie) (w .0) z),
         omega (arith, inv .tie .opened-is, run-facts top (r .head .sizes .cells) (cellValues d s) (ownOf d s) (inv .went) .view-facts .opened-is),
       )
   reached (Read w c) ns =
@@ -181,35 +181,26 @@ module _ {V : Type 0} (d : V) (s : Register V) (run : History V) (r : Register V
       z = sized r (Read w c) ns
 
       i : (1 ≤ c .0) × (c .0 ≤ r .head .sizes .cells)
-      i = inside (r .head .sizes .cells) (c .0) (ns .1 .1 .1 .1 .1 .1 .1 .1 .0)
+      i = inside (r .head .sizes .cells) (c .0) (cell-passes r (Read w c) ns)
 
       wk : Working r (w .0)
-      wk = working r (w .0) (ns .1 .1 .1 .1 .1 .1 .1 .1 .1 .1 .0) (ns .1 .1 .1 .1 .1 .1 .1 .1 .1 .1 .1 .0)
+      wk = working r (Read w c) refl ns
   reached (Write w c v) ns =
       let z = sized r (Write w c v) ns in
-      let i = inside (r .head .sizes .cells) (c .0) (ns .1 .1 .1 .1 .1 .1 .1 .1 .0) in
-      let wk = working r (w .0) (ns .1 .1 .1 .1 .1 .1 .1 .1 .1 .1 .0) (ns .1 .1 .1 .1 .1 .1 .1 .1 .1 .1 .1 .0) in λ bk b.
+      let i = inside (r .head .sizes .cells) (c .0) (cell-passes r (Write w c v) ns) in
+      let wk = working r (Write w c v) refl ns in λ bk b.
       (plain-step (w .0) (Operation.writes (c .0) v) (writeOutcome r (w .0) (c .0) v .left) bk (accepts-write d r (inv .view) (inv .tie) (w .0) z (c .0) v wk (i .0) (i .1)) refl refl refl b (tie-write d r (inv .view) (inv .tie) (w .0) z (c .0) v (i .0) (i .1)), tt)
   reached (Commit w) ns =
       let z = sized r (Commit w) ns in
-      let wk = working r (w .0) (ns .1 .1 .1 .1 .1 .1 .1 .1 .1 .1 .0) (ns .1 .1 .1 .1 .1 .1 .1 .1 .1 .1 .1 .0) in
+      let wk = working r (Commit w) refl ns in
       cond-both (ltb (highOf r (w .0)) (commitLow r (w .0) + 2)) _ _ (Reached (Commit w)) (λ l. reached-given-up (Commit w) (λ p. Err (NoPlace p)) z wk (λ p. refl) (λ p j. tt)) (λ l. reached-commit w z wk l)
   reached (Abandon w) ns =
       let z = sized r (Abandon w) ns in
-      let wk = working r (w .0) (ns .1 .1 .1 .1 .1 .1 .1 .1 .1 .1 .0) (ns .1 .1 .1 .1 .1 .1 .1 .1 .1 .1 .1 .0) in
+      let wk = working r (Abandon w) refl ns in
       reached-given-up (Abandon w) (λ p. Ok (Answer.Ended p)) z wk (λ p. refl) (λ p j. tt)
 
-  -- none of the tests is stale or no place
-  abbrev Plain : List (Bool × Refusal) → Type 0
-  Plain [] = Unit {0}
-  Plain (t ∷ ts) = (operationRefused {V = V} (t .1) ≡ None) × Plain ts
-
-  decided : (k : Call V) (ts : List (Bool × Refusal)) (o : Outcome V) → Plain ts → (None-of ts → Reached k o) → Reached k (ifRefused (firstRefusal ts) (λ e. refused e r) o)
-  decided k [] o p g = g tt
-  decided k (t ∷ ts) o p g = cond-both (t .0) (Some (t .1)) (firstRefusal ts) (λ (q : Option Refusal). Reached k (ifRefused q (λ e. refused e r) o)) (λ e. reached-refused k (t .1) (p .0)) (λ e. decided k ts o (p .1) (λ ns. g (e, ns)))
-
   reached-outcome : (k : Call V) → Reached k (outcome d (f []) r k)
-  reached-outcome k = decided k (testsOf r k) (accepted d (f []) r k) (refl, (refl, (refl, (refl, (refl, (refl, (refl, (refl, (refl, (refl, (refl, (refl, (refl, (refl, tt)))))))))))))) (reached k)
+  reached-outcome k = outcome-by (Reached k) d (f []) r k (reached-refused k) (reached k)
 
   pub performed : (k : Call V) (a : Result (Answer V) Refusal) (r′ : Register V) (f′ : Meaning) → Performs d r f k a r′ f′ → Inv d s (withOperation (crewOf k) (operationOf k a) run) r′ f′ × NumberedSo a (openings run)
   performed k a r′ f′ p = (

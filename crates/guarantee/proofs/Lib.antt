@@ -1,4 +1,6 @@
 pub mod Started
+pub mod Passing
+pub mod Histories
 pub mod Tied
 pub mod Orders
 pub mod Booked

@@ -24,7 +24,7 @@ use Rattle.history.proofs.Alike.{Alike, SameCall, by-jobs-alike, calls-alike, o
 use Rattle.history.proofs.Alike.Alike.{more, none}
 use Rattle.history.proofs.Alike.SameCall.{abandon-abandon, commit-commit, open-open, read-read, write-write}
 use Rattle.history.proofs.Choosing.{positions-script}
-use Rattle.rules.specs.JobCalls.{Outcome, accepted, commitLow, crewOf, outcome, raisedLow, testsOf}
+use Rattle.rules.specs.JobCalls.{Outcome, accepted, commitLow, crewOf, outcome, raisedLow}
 use Rattle.rules.specs.Limits.{mostEntries, top}
 use Rattle.rules.specs.Making.{JustStarted}
 use Rattle.rules.specs.Registers.{Register, hasWritten, highOf, ownOf}
@@ -40,7 +40,8 @@ use Rattle.guarantee.proofs.Accepting.{Abreast, performed, sizes-of}
 use Rattle.guarantee.proofs.Counting.{busy}
 use Rattle.guarantee.proofs.Invariant.{keeps-on, start-tie}
 use Rattle.guarantee.proofs.Opacity.{every-run-is-opaque}
-use Rattle.guarantee.proofs.RuleFacts.{every-call-can-be-performed, unless-refused}
+use Rattle.guarantee.proofs.Passing.{outcome-by}
+use Rattle.guarantee.proofs.RuleFacts.{every-call-can-be-performed}
 use Rattle.guarantee.proofs.Started.{fresh}
 
 ---- From a run to an order: each call that was accepted is a operation of its kind
@@ -62,7 +63,7 @@ module _ {V : Type 0} (d : V) where
   accepted-kind f r (Abandon w) = λ i. abandon-abandon
 
   outcome-kind : (f : Meaning) (r : Register V) (k : Call V) → Kind-if-ok k (outcome d (f []) r k .answer)
-  outcome-kind f r k = unless-refused (λ (o : Outcome V). Kind-if-ok k (o .answer)) r (testsOf r k) (accepted d (f []) r k) (λ e i. absurd i) (λ ns. accepted-kind f r k)
+  outcome-kind f r k = outcome-by (λ (o : Outcome V). Kind-if-ok k (o .answer)) d (f []) r k (λ e q i. absurd i) (λ ns. accepted-kind f r k)
 
   joined : (k : Call V) (x : Option (Operation V V ℕ)) (run : History V) (ks : List (Call V)) → Kind k x → Alike run (eventsOf ks) → Alike (withOperation (crewOf k) x run) (eventsOf (k ∷ ks))
   joined k None run ks m a = absurd m

@@ -20,10 +20,9 @@ use Rattle.terms.specs.declared.refusals.Refusal.the-variants.{NoPlace, Stale}
 use Rattle.choosers.specs.Meaning.{KeepsLaw, Meaning}
 use Rattle.history.specs.WellMade.{asked}
 use Rattle.history.proofs.Alike.Alike.{none}
-use Rattle.rules.specs.JobCalls.{Outcome, abandonOutcome, accepted, commitLow, committedAt, otherReader, outcome, raisedLow, readCell, refused, testsOf, touches}
+use Rattle.rules.specs.JobCalls.{Outcome, abandonOutcome, accepted, commitLow, committedAt, otherReader, outcome, raisedLow, readCell, testsOf, touches}
 use Rattle.rules.specs.Limits.{top}
 use Rattle.rules.specs.Performing.{All, Ascending, Entered, Inserted, NotAbove, Performs, movedIf, withBook}
-use Rattle.rules.specs.Refusing.{firstRefusal, ifRefused}
 use Rattle.rules.specs.Registers.{Register, hasJob, hasRead, hasWritten, highOf, lowOf, ownOf}
 use Rattle.rules.specs.Tables.{at, eachFrom, most, some, spot}
 use Rattle.rules.specs.declared.calls.Answer.{Answer}
@@ -33,17 +32,7 @@ use Rattle.rules.specs.declared.calls.Call.the-variants.{Abandon, Commit, Open,
 use Rattle.rules.proofs.Changing.{inside, most-at, most-least, spot-in}
 use Rattle.guarantee.specs.RuleFacts.{Bounds, CommitBoundIsLargest, EveryCallCanBePerformed, NoOutcomeDependsOnDefault, ReadsWritten, SoundHead}
 use Rattle.guarantee.proofs.Invariant.{performed}
-use Rattle.guarantee.proofs.Tied.{None-of, Sized, Working, sized, working}
-
-module _ {V : Type 0} where
-  -- whatever holds of each refusal, and of what follows where none of the tests holds
-  pub unless-refused : (P : Outcome V → Type 0) (r : Register V) (ts : List (Bool × Refusal)) (o : Outcome V) → ((e : Refusal) → P (refused e r)) → (None-of ts → P o) → P (ifRefused (firstRefusal ts) (λ e. refused e r) o)
-  unless-refused P r [] o f g = g tt
-  unless-refused P r (t ∷ ts) o f g = cond-both (t .0) (Some (t .1)) (firstRefusal ts) (λ (q : Option Refusal). P (ifRefused q (λ e. refused e r) o)) (λ e. f (t .1)) (λ e. unless-refused P r ts o f (λ ns. g (e, ns)))
-
-  same-unless-refused : (r : Register V) (ts : List (Bool × Refusal)) (o q : Outcome V) → (None-of ts → o ≡ q) → ifRefused (firstRefusal ts) (λ e. refused e r) o ≡ ifRefused (firstRefusal ts) (λ e. refused e r) q
-  same-unless-refused r [] o q g = g tt
-  same-unless-refused r (t ∷ ts) o q g = cond-both (t .0) (Some (t .1)) (firstRefusal ts) (λ (x : Option Refusal). ifRefused x (λ e. refused e r) o ≡ ifRefused x (λ e. refused e r) q) (λ e. refl) (λ e. same-unless-refused r ts o q (λ ns. g (e, ns)))
+use Rattle.guarantee.proofs.Passing.{None-of, Sized, Working, cell-passes, free, outcome-by, same-outcome, sized, working}
 
 each-same : {A : Type 0} (f g : ℕ → A → A) (k : ℕ) (xs : List A) → ((c : ℕ) (x : A) → k ≤ c → c < k + length xs → f c x ≡ g c x) → eachFrom k f xs ≡ eachFrom k g xs
 each-same f g k [] h = refl
@@ -51,13 +40,13 @@ each-same f g k (x ∷ xs) h = ap₂ _∷_ (h k x (omega arith) (omega arith)) (
 
 module _ {V : Type 0} (d e : V) (r : Register V) where
   own-same : (w c : ℕ) → Sized r w → 1 ≤ c → c ≤ r .head .sizes .cells → ownOf d r w c ≡ ownOf e r w c
-  own-same w c z a b = getD-default (r .tables .own) (spot (r .head .sizes .cells) w c) d e (rw (z .fits .own) (spot-in (r .head .sizes .cells) (r .head .sizes .crews) w c (z .from-one) (z .to-m) a b))
+  own-same w c z a b = getD-default (r .tables .own) (spot (r .head .sizes .cells) w c) d e (rw (z .fits .own) (spot-in (r .head .sizes .cells) (r .head .sizes .crews) w c (z .from-one) (z .to-crews) a b))
 
   accepted-same : (pick : ℕ → ℕ → ℕ) (k : Call V) → None-of (testsOf r k) → accepted d pick r k ≡ accepted e pick r k
   accepted-same pick (Open w) ns = refl
   accepted-same pick (Read w c) ns =
       let z = sized r (Read w c) ns in
-      let i = inside (r .head .sizes .cells) (c .0) (ns .1 .1 .1 .1 .1 .1 .1 .1 .0) in
+      let i = inside (r .head .sizes .cells) (c .0) (cell-passes r (Read w c) ns) in
       ap₂ (λ (v u : V). cond (hasWritten r (w .0) (c .0)) (record { answer = Ok (Told v); left = r; asked = None; entry = None })
       (cond (ltb (highOf r (w .0)) (raisedLow r (w .0) (c .0) + 2)) (abandonOutcome pick r (w .0) (λ p. Err (Stale p))) (record { answer = Ok (Told u); left = readCell d r (w .0) (c .0) .left; asked = None; entry = None })))
       (own-same (w .0) (c .0) z (i .0) (i .1)) (getD-default (r .tables .values) (c .0 - 1) d e (omega (arith, z .fits .values, i .0, i .1)))
@@ -81,7 +70,7 @@ module _ {V : Type 0} (d e : V) (r : Register V) where
   accepted-same pick (Abandon w) ns = refl
 
 pub no-outcome-depends-on-default : (V : Type 0) → NoOutcomeDependsOnDefault V
-no-outcome-depends-on-default V d e pick r k = same-unless-refused r (testsOf r k) (accepted d pick r k) (accepted e pick r k) (accepted-same d e r pick k)
+no-outcome-depends-on-default V d e pick r k = same-outcome d e pick r k (accepted-same d e r pick k)
 
 ---- SoundHead heads
 
@@ -93,18 +82,18 @@ module _ {V : Type 0} (d : V) (f : Meaning) (r : Register V) (ke : KeepsLaw f) (
   sound-up w say k = let b = sound-end w (f [] (lowOf r w) (highOf r w)) k (ke .between [] (lowOf r w) (highOf r w) (k .room) .1) in record { under-top = b .0; in-book = b .1 }
 
   sound-accepted : (k : Call V) → None-of (testsOf r k) → SoundHead (accepted d (f []) r k .left .head)
-  sound-accepted (Open w) ns = record { under-top = so .under-top; in-book = let q = eqb-false (r .head .ended + r .head .active) (r .head .sizes .entries) (ns .1 .1 .1 .1 .1 .1 .1 .1 .1 .1 .1 .1 .1 .0) in omega (arith, so .in-book) }
+  sound-accepted (Open w) ns = record { under-top = so .under-top; in-book = let q = eqb-false (r .head .ended + r .head .active) (r .head .sizes .entries) (free r w ns .entries-left) in omega (arith, so .in-book) }
   sound-accepted (Read w c) ns = cond-both (hasWritten r (w .0) (c .0)) _ _ (λ (o : Outcome V). SoundHead (o .left .head)) (λ e. so)
       (λ e. cond-both (ltb (highOf r (w .0)) (raisedLow r (w .0) (c .0) + 2)) _ _ (λ (o : Outcome V). SoundHead (o .left .head))
-      (λ l. sound-up (w .0) (λ p. Err (Stale p)) (working r (w .0) (ns .1 .1 .1 .1 .1 .1 .1 .1 .1 .1 .0) (ns .1 .1 .1 .1 .1 .1 .1 .1 .1 .1 .1 .0)))
+      (λ l. sound-up (w .0) (λ p. Err (Stale p)) (working r (Read w c) refl ns))
       (λ l. record { under-top = so .under-top; in-book = so .in-book }))
   sound-accepted (Write w c v) ns = record { under-top = so .under-top; in-book = so .in-book }
   sound-accepted (Commit w) ns = cond-both (ltb (highOf r (w .0)) (commitLow r (w .0) + 2)) _ _ (λ (o : Outcome V). SoundHead (o .left .head)) (λ l. sound-up (w .0) (λ p. Err (NoPlace p)) wk)
       (λ l. let b = sound-end (w .0) (f [] (commitLow r (w .0)) (highOf r (w .0))) wk (ke .between [] (commitLow r (w .0)) (highOf r (w .0)) (ltb-false (highOf r (w .0)) (commitLow r (w .0) + 2) l) .1) in record { under-top = b .0; in-book = b .1 })
     where
       wk : Working r (w .0)
-      wk = working r (w .0) (ns .1 .1 .1 .1 .1 .1 .1 .1 .1 .1 .0) (ns .1 .1 .1 .1 .1 .1 .1 .1 .1 .1 .1 .0)
-  sound-accepted (Abandon w) ns = sound-up (w .0) (λ p. Ok (Ended p)) (working r (w .0) (ns .1 .1 .1 .1 .1 .1 .1 .1 .1 .1 .0) (ns .1 .1 .1 .1 .1 .1 .1 .1 .1 .1 .1 .0))
+      wk = working r (Commit w) refl ns
+  sound-accepted (Abandon w) ns = sound-up (w .0) (λ p. Ok (Ended p)) (working r (Abandon w) refl ns)
 
 ---- An entry can always be put in
 
@@ -176,28 +165,25 @@ module _ {V : Type 0} (d : V) (f : Meaning) (r : Register V) (so : SoundHead (r 
   can-end : (w : ℕ) (e : Entry) → Working r w → length (r .tables .book) ≡ r .head .sizes .entries → (bk : List Entry) × Inserted (r .head .ended) e (r .tables .book) bk
   can-end w e k l = inserted (r .head .ended) e (r .tables .book) (omega (arith, so .in-book, k .counted))
 
-  fits-book : (k : Call V) → None-of (testsOf r k) → length (r .tables .book) ≡ r .head .sizes .entries
-  fits-book k ns = eqb-true (length (r .tables .book)) (r .head .sizes .entries) (not-false (eqb (length (r .tables .book)) (r .head .sizes .entries)) (ns .1 .1 .1 .1 .1 .1 .0))
-
   can : (k : Call V) → None-of (testsOf r k) → Can (accepted d (f []) r k)
   can (Open w) ns = (r .tables .book, refl)
   can (Read w c) ns = cond-both (hasWritten r (w .0) (c .0)) _ _ Can (λ e. (r .tables .book, refl))
       (λ e. cond-both (ltb (highOf r (w .0)) (raisedLow r (w .0) (c .0) + 2)) _ _ Can
-      (λ l. can-end (w .0) _ (working r (w .0) (ns .1 .1 .1 .1 .1 .1 .1 .1 .1 .1 .0) (ns .1 .1 .1 .1 .1 .1 .1 .1 .1 .1 .1 .0)) (fits-book (Read w c) ns)) (λ l. (r .tables .book, refl)))
+      (λ l. can-end (w .0) _ (working r (Read w c) refl ns) (sized r (Read w c) ns .fits .book)) (λ l. (r .tables .book, refl)))
   can (Write w c v) ns = (r .tables .book, refl)
-  can (Commit w) ns = cond-both (ltb (highOf r (w .0)) (commitLow r (w .0) + 2)) _ _ Can (λ l. can-end (w .0) _ wk (fits-book (Commit w) ns)) (λ l. can-end (w .0) _ wk (fits-book (Commit w) ns))
+  can (Commit w) ns = cond-both (ltb (highOf r (w .0)) (commitLow r (w .0) + 2)) _ _ Can (λ l. can-end (w .0) _ wk (sized r (Commit w) ns .fits .book)) (λ l. can-end (w .0) _ wk (sized r (Commit w) ns .fits .book))
     where
       wk : Working r (w .0)
-      wk = working r (w .0) (ns .1 .1 .1 .1 .1 .1 .1 .1 .1 .1 .0) (ns .1 .1 .1 .1 .1 .1 .1 .1 .1 .1 .1 .0)
-  can (Abandon w) ns = can-end (w .0) _ (working r (w .0) (ns .1 .1 .1 .1 .1 .1 .1 .1 .1 .1 .0) (ns .1 .1 .1 .1 .1 .1 .1 .1 .1 .1 .1 .0)) (fits-book (Abandon w) ns)
+      wk = working r (Commit w) refl ns
+  can (Abandon w) ns = can-end (w .0) _ (working r (Abandon w) refl ns) (sized r (Abandon w) ns .fits .book)
 
   possible : (k : Call V) → (a : Result (Answer V) Refusal) × (r′ : Register V) × (f′ : Meaning) × Performs d r f k a r′ f′
-  possible k = let b = unless-refused Can r (testsOf r k) (accepted d (f []) r k) (λ e. (r .tables .book, refl)) (can k) in
+  possible k = let b = outcome-by Can d (f []) r k (λ e q. (r .tables .book, refl)) (can k) in
       (outcome d (f []) r k .answer, withBook (outcome d (f []) r k .left) (b .0), movedIf f (outcome d (f []) r k .asked), record { answers = refl; leaves = refl; asks = refl; enters = b .1 })
 
 pub every-call-can-be-performed : (V : Type 0) → EveryCallCanBePerformed V
 every-call-can-be-performed V = record {
-  stays-sound = λ d f r k ke so. unless-refused (λ (o : Outcome V). SoundHead (o .left .head)) r (testsOf r k) (accepted d (f []) r k) (λ e. so) (sound-accepted d f r ke so k);
+  stays-sound = λ d f r k ke so. outcome-by (λ (o : Outcome V). SoundHead (o .left .head)) d (f []) r k (λ e q. so) (sound-accepted d f r ke so k);
   performed = λ d f r k so. possible d f r so k;
 }
 

@@ -18,59 +18,14 @@ use Rattle.terms.specs.declared.records.Standing.the-variants.{Open as IsOpen}
 use Rattle.terms.specs.declared.refusals.Refusal.{Refusal}
 use Rattle.history.specs.Events.{Operation}
 use Rattle.history.specs.Views.{Accepts, RegisterView, conflicts, updated, viewAfter}
-use Rattle.rules.specs.Contents.{Fits, closedRecord}
-use Rattle.rules.specs.JobCalls.{abandonedAt, commitLow, committedAt, crewOf, damaged, lowered, openOutcome, otherReader, raisedLow, raisedReads, readCell, testsOf, touches, writeOutcome}
+use Rattle.rules.specs.Contents.{closedRecord}
+use Rattle.rules.specs.JobCalls.{abandonedAt, commitLow, committedAt, lowered, openOutcome, otherReader, raisedLow, raisedReads, readCell, touches, writeOutcome}
 use Rattle.rules.specs.Limits.{top}
 use Rattle.rules.specs.Registers.{Register, flagOf, hasJob, hasRead, hasWritten, highOf, isOpen, jobNumber, lowOf, ownOf, recordOf}
 use Rattle.rules.specs.Tables.{at, cleared, each, most, put, readFlag, some, spot, withRead, withWritten, writtenFlag}
 use Rattle.rules.specs.declared.calls.Answer.{Answer}
-use Rattle.rules.specs.declared.calls.Call.{Call}
-use Rattle.rules.proofs.Changing.{at-each, at-put, first-read, first-written, getD-cleared, getD-spot, inside, length-each, most-at, written-read, written-written}
-
--- none of the tests holds
-abbrev pub None-of : List (Bool × Refusal) → Type 0
-None-of [] = Unit {0}
-None-of (t ∷ ts) = (t .0 ≡ false) × None-of ts
-
--- what every call that passes the tests has seen to
-pub record Sized {V : Type 0} (r : Register V) (w : ℕ) : Type 0 where
-  pub fits : Fits (r .head .sizes) (r .tables)
-  pub from-one : 1 ≤ w
-  pub to-m : w ≤ r .head .sizes .crews
-
-fits : (a b : ℕ) → not (eqb a b) ≡ false → a ≡ b
-fits a b e = eqb-true a b (not-false (eqb a b) e)
-
-pub sized : {V : Type 0} (r : Register V) (k : Call V) → None-of (testsOf r k) → Sized r (crewOf k)
-sized r k ns =
-    let i = inside (r .head .sizes .crews) (crewOf k) (ns .1 .1 .1 .1 .1 .1 .1 .0) in
-    record {
-      fits = record {
-        values = fits _ _ (ns .0);
-        written = fits _ _ (ns .1 .0);
-        read = fits _ _ (ns .1 .1 .0);
-        jobs = fits _ _ (ns .1 .1 .1 .0);
-        own = fits _ _ (ns .1 .1 .1 .1 .0);
-        flags = fits _ _ (ns .1 .1 .1 .1 .1 .0);
-        book = fits _ _ (ns .1 .1 .1 .1 .1 .1 .0);
-      };
-      from-one = i .0;
-      to-m = i .1;
-    }
-
--- what a call of an open job has seen to
-pub record Working {V : Type 0} (r : Register V) (w : ℕ) : Type 0 where
-  pub has : hasJob r w ≡ true
-  pub room : lowOf r w + 2 ≤ highOf r w
-  pub under-top : highOf r w ≤ top
-  pub counted : 1 ≤ r .head .active
-
-pub working : {V : Type 0} (r : Register V) (w : ℕ) → not (hasJob r w) ≡ false → damaged r w ≡ false → Working r w
-working r w e f =
-    let p = or-parts (ltb (highOf r w) (lowOf r w + 2)) (ltb top (highOf r w) || eqb (r .head .active) 0) f in
-    let q = or-parts (ltb top (highOf r w)) (eqb (r .head .active) 0) (p .1) in
-    let z = eqb-false (r .head .active) 0 (q .1) in
-    record { has = not-false (hasJob r w) e; room = ltb-false (highOf r w) (lowOf r w + 2) (p .0); under-top = ltb-false top (highOf r w) (q .0); counted = omega arith }
+use Rattle.rules.proofs.Changing.{at-each, at-put, first-read, first-written, getD-cleared, getD-spot, length-each, most-at, written-read, written-written}
+use Rattle.guarantee.proofs.Passing.{Sized, Working}
 
 ---- The tie
 
@@ -140,7 +95,7 @@ cond-same b c x x′ y y′ p q e = rw (p, q, e)
 
 module _ {V : Type 0} (d : V) (r : Register V) (s : RegisterView V) (tie : Tie d r s) (w : ℕ) (z : Sized r w) where
   pub of-open : hasJob r w ≡ true → (s .job w ≡ jobNumber r w) × (1 ≤ s .job w) × (s .low w ≡ lowOf r w) × (s .high w ≡ highOf r w)
-  of-open e = tied-open (hasJob r w) (recordOf r w) (s .job w) (s .low w) (s .high w) e (tie .job-is w (z .from-one) (z .to-m))
+  of-open e = tied-open (hasJob r w) (recordOf r w) (s .job w) (s .low w) (s .high w) e (tie .job-is w (z .from-one) (z .to-crews))
 
   pub job-tied : Working r w → s .job w ≡ jobNumber r w
   job-tied k = of-open (k .has) .0
@@ -150,20 +105,20 @@ module _ {V : Type 0} (d : V) (r : Register V) (s : RegisterView V) (tie : Tie d
       (u : ℕ) → 1 ≤ u → u ≤ r .head .sizes .crews → Tied (isOpen (at (put xs w k) u closedRecord .standing)) (at (put xs w k) u closedRecord) (updated (s .job) w x′ u) (updated (s .low) w l′ u) (updated high w h′ u)
   put-jobs k xs x′ l′ h′ high len p q u a b =
       subst (λ (j : JobRecord). Tied (isOpen (j .standing)) j (updated (s .job) w x′ u) (updated (s .low) w l′ u) (updated high w h′ u))
-      (sym (at-put xs w u k closedRecord (z .from-one) (omega (arith, z .to-m)) a))
+      (sym (at-put xs w u k closedRecord (z .from-one) (omega (arith, z .to-crews)) a))
       (tied-put (eqb w u) k (at xs u closedRecord) (s .job u) x′ (s .low u) l′ (high u) h′ p (λ e. q u (λ f. eqb-false w u e (sym f)) a b))
 
   put-crews : (x : ℕ) → (u : ℕ) → 1 ≤ updated (s .job) w x u → (1 ≤ u) × (u ≤ r .head .sizes .crews)
   put-crews x u = go (eqb w u) refl
     where
       go : (b : Bool) → eqb w u ≡ b → 1 ≤ cond b x (s .job u) → (1 ≤ u) × (u ≤ r .head .sizes .crews)
-      go true e a = let q = eqb-true w u e in (omega (arith, z .from-one), omega (arith, z .to-m))
+      go true e a = let q = eqb-true w u e in (omega (arith, z .from-one), omega (arith, z .to-crews))
       go false e a = tie .crews u a
 
   ---- open
 
   pub accepts-open : hasJob r w ≡ false → ltb top (r .head .highest + 2) ≡ false → Accepts top (r .head .sizes .cells) s w Operation.opens
-  accepts-open e f = (tied-closed (hasJob r w) (recordOf r w) (s .job w) (s .low w) (s .high w) e (tie .job-is w (z .from-one) (z .to-m)), omega (arith, tie .highest-is, ltb-false top (r .head .highest + 2) f))
+  accepts-open e f = (tied-closed (hasJob r w) (recordOf r w) (s .job w) (s .low w) (s .high w) e (tie .job-is w (z .from-one) (z .to-crews)), omega (arith, tie .highest-is, ltb-false top (r .head .highest + 2) f))
 
   pub tie-open : Tie d (openOutcome r w .left) (viewAfter top (r .head .sizes .cells) s w Operation.opens)
   tie-open = record {
@@ -186,7 +141,7 @@ module _ {V : Type 0} (d : V) (r : Register V) (s : RegisterView V) (tie : Tie d
       ((u k : ℕ) → 1 ≤ u → u ≤ r .head .sizes .crews → 1 ≤ k → k ≤ r .head .sizes .cells → g (getD xs (spot (r .head .sizes .cells) u k) o) ≡ t u k) →
       (u k : ℕ) → 1 ≤ u → u ≤ r .head .sizes .crews → 1 ≤ k → k ≤ r .head .sizes .cells → g (getD (set xs (spot (r .head .sizes .cells) w c) x) (spot (r .head .sizes .cells) u k) o) ≡ updated t w (updated (t w) c y) u k
   spot-put xs o c x g t y len a b e same u k au bu ak bk =
-      ap g (getD-spot xs (r .head .sizes .cells) (r .head .sizes .crews) w c u k x o len (z .from-one) (z .to-m) a b au ak bk) ∙ go (eqb w u) (eqb c k) refl refl
+      ap g (getD-spot xs (r .head .sizes .cells) (r .head .sizes .crews) w c u k x o len (z .from-one) (z .to-crews) a b au ak bk) ∙ go (eqb w u) (eqb c k) refl refl
     where
       go : (p q : Bool) → eqb w u ≡ p → eqb c k ≡ q → g (cond p (cond q x (getD xs (spot (r .head .sizes .cells) u k) o)) (getD xs (spot (r .head .sizes .cells) u k) o)) ≡ cond p (λ j. cond (eqb c j) y (t w j)) (t u) k
       go true true f h = rw h e
@@ -197,8 +152,8 @@ module _ {V : Type 0} (d : V) (r : Register V) (s : RegisterView V) (tie : Tie d
 
   pub accepts-own : (c : ℕ) → Working r w → 1 ≤ c → c ≤ r .head .sizes .cells → hasWritten r w c ≡ true → Accepts top (r .head .sizes .cells) s w (Operation.reads c (ownOf d r w c))
   accepts-own c k a b e =
-      let f : s .hasWritten w c ≡ true = sym (tie .writes-are w c (z .from-one) (z .to-m) a b) ∙ e in
-      (of-open (k .has) .1, rw f (tie .own-is w c (z .from-one) (z .to-m) a b), λ g. absurd (both-ways (s .hasWritten w c) g f))
+      let f : s .hasWritten w c ≡ true = sym (tie .writes-are w c (z .from-one) (z .to-crews) a b) ∙ e in
+      (of-open (k .has) .1, rw f (tie .own-is w c (z .from-one) (z .to-crews) a b), λ g. absurd (both-ways (s .hasWritten w c) g f))
 
   pub tie-own : (c : ℕ) (v : V) → 1 ≤ c → c ≤ r .head .sizes .cells → hasWritten r w c ≡ true → Tie d r (viewAfter top (r .head .sizes .cells) s w (Operation.reads c v))
   tie-own c v a b e = record {
@@ -215,14 +170,14 @@ module _ {V : Type 0} (d : V) (r : Register V) (s : RegisterView V) (tie : Tie d
   }
     where
       f : s .hasWritten w c ≡ true
-      f = sym (tie .writes-are w c (z .from-one) (z .to-m) a b) ∙ e
+      f = sym (tie .writes-are w c (z .from-one) (z .to-crews) a b) ∙ e
 
       row-same : updated (s .hasRead w) c (cond (s .hasWritten w c) (s .hasRead w c) true) ≡ s .hasRead w
       row-same = fun-ext (put-same (s .hasRead w) c (cond (s .hasWritten w c) (s .hasRead w c) true) (rw f))
 
   pub accepts-cell : (c : ℕ) → Working r w → 1 ≤ c → c ≤ r .head .sizes .cells → hasWritten r w c ≡ false → ltb (highOf r w) (raisedLow r w c + 2) ≡ false → Accepts top (r .head .sizes .cells) s w (Operation.reads c (at (r .tables .values) c d))
   accepts-cell c k a b e l =
-      let f : s .hasWritten w c ≡ false = sym (tie .writes-are w c (z .from-one) (z .to-m) a b) ∙ e in
+      let f : s .hasWritten w c ≡ false = sym (tie .writes-are w c (z .from-one) (z .to-crews) a b) ∙ e in
       let o = of-open (k .has) in
       (o .1, rw f (tie .value-is c a b), λ g. omega (arith, o .2, o .3, tie .written-is c a b, ltb-false (highOf r w) (raisedLow r w c + 2) l))
 
@@ -237,7 +192,7 @@ module _ {V : Type 0} (d : V) (r : Register V) (s : RegisterView V) (tie : Tie d
     crews = tie .crews;
     own-is = tie .own-is;
     reads-are = spot-put (r .tables .flags) 0 c (withRead (flagOf r w c)) readFlag (s .hasRead) (cond (s .hasWritten w c) (s .hasRead w c) true) (z .fits .flags) a b (first-read (flagOf r w c) ∙ rw f) (tie .reads-are);
-    writes-are = λ u i a′ b′ a″ b″. spot-put (r .tables .flags) 0 c (withRead (flagOf r w c)) writtenFlag (s .hasWritten) (s .hasWritten w c) (z .fits .flags) a b (written-read (flagOf r w c) ∙ tie .writes-are w c (z .from-one) (z .to-m) a b) (tie .writes-are) u i a′ b′ a″ b″
+    writes-are = λ u i a′ b′ a″ b″. spot-put (r .tables .flags) 0 c (withRead (flagOf r w c)) writtenFlag (s .hasWritten) (s .hasWritten w c) (z .fits .flags) a b (written-read (flagOf r w c) ∙ tie .writes-are w c (z .from-one) (z .to-crews) a b) (tie .writes-are) u i a′ b′ a″ b″
         ∙ ap (λ (g : ℕ → Bool). g i) (put-same (s .hasWritten) w (updated (s .hasWritten w) c (s .hasWritten w c)) (fun-ext (put-same (s .hasWritten w) c (s .hasWritten w c) refl)) u);
     highest-is = tie .highest-is;
     opened-is = tie .opened-is;
@@ -253,7 +208,7 @@ module _ {V : Type 0} (d : V) (r : Register V) (s : RegisterView V) (tie : Tie d
       o = of-open (k .has)
 
       f : s .hasWritten w c ≡ false
-      f = sym (tie .writes-are w c (z .from-one) (z .to-m) a b) ∙ e
+      f = sym (tie .writes-are w c (z .from-one) (z .to-crews) a b) ∙ e
 
       low-is : L ≡ raisedLow r w c
       low-is = rw f (omega (arith, o .2, tie .written-is c a b))
@@ -271,7 +226,7 @@ module _ {V : Type 0} (d : V) (r : Register V) (s : RegisterView V) (tie : Tie d
     job-is = tie .job-is;
     crews = tie .crews;
     own-is = spot-put (r .tables .own) d c v (λ (x : V). x) (s .own) v (z .fits .own) a b refl (tie .own-is);
-    reads-are = λ u i a′ b′ a″ b″. spot-put (r .tables .flags) 0 c (withWritten (flagOf r w c)) readFlag (s .hasRead) (s .hasRead w c) (z .fits .flags) a b (first-written (flagOf r w c) ∙ tie .reads-are w c (z .from-one) (z .to-m) a b) (tie .reads-are) u i a′ b′ a″ b″
+    reads-are = λ u i a′ b′ a″ b″. spot-put (r .tables .flags) 0 c (withWritten (flagOf r w c)) readFlag (s .hasRead) (s .hasRead w c) (z .fits .flags) a b (first-written (flagOf r w c) ∙ tie .reads-are w c (z .from-one) (z .to-crews) a b) (tie .reads-are) u i a′ b′ a″ b″
         ∙ ap (λ (g : ℕ → Bool). g i) (put-same (s .hasRead) w (updated (s .hasRead w) c (s .hasRead w c)) (fun-ext (put-same (s .hasRead w) c (s .hasRead w c) refl)) u);
     writes-are = spot-put (r .tables .flags) 0 c (withWritten (flagOf r w c)) writtenFlag (s .hasWritten) true (z .fits .flags) a b (written-written (flagOf r w c)) (tie .writes-are);
     highest-is = tie .highest-is;
@@ -282,7 +237,7 @@ module _ {V : Type 0} (d : V) (r : Register V) (s : RegisterView V) (tie : Tie d
 
   row-put : (g : ℕ → Bool) (t : ℕ → ℕ → Bool) → g 0 ≡ false → ((u k : ℕ) → 1 ≤ u → u ≤ r .head .sizes .crews → 1 ≤ k → k ≤ r .head .sizes .cells → g (flagOf r u k) ≡ t u k) →
       (u k : ℕ) → 1 ≤ u → u ≤ r .head .sizes .crews → 1 ≤ k → k ≤ r .head .sizes .cells → g (getD (cleared (r .tables .flags) (r .head .sizes .cells) w) (spot (r .head .sizes .cells) u k) 0) ≡ updated t w (λ c. false) u k
-  row-put g t e same u k au bu ak bk = ap g (getD-cleared (r .tables .flags) (r .head .sizes .cells) (r .head .sizes .crews) w u k (z .fits .flags) (z .from-one) (z .to-m) au ak bk) ∙ go (eqb w u)
+  row-put g t e same u k au bu ak bk = ap g (getD-cleared (r .tables .flags) (r .head .sizes .cells) (r .head .sizes .crews) w u k (z .fits .flags) (z .from-one) (z .to-crews) au ak bk) ∙ go (eqb w u)
     where
       go : (b : Bool) → g (cond b 0 (flagOf r u k)) ≡ cond b (λ c. false) (t u) k
       go true = e
@@ -290,7 +245,7 @@ module _ {V : Type 0} (d : V) (r : Register V) (s : RegisterView V) (tie : Tie d
 
   read-raised : (p c : ℕ) → 1 ≤ c → c ≤ r .head .sizes .cells → at (raisedReads r w p) c 0 ≡ cond (s .hasRead w c) (max (s .read c) p) (s .read c)
   read-raised p c a b = at-each (λ c x. cond (hasRead r w c) (max x p) x) (r .tables .read) c 0 a (omega (arith, z .fits .read))
-      ∙ cond-same (hasRead r w c) (s .hasRead w c) (max (at (r .tables .read) c 0) p) (max (s .read c) p) (at (r .tables .read) c 0) (s .read c) (tie .reads-are w c (z .from-one) (z .to-m) a b) (omega (arith, tie .read-is c a b)) (tie .read-is c a b)
+      ∙ cond-same (hasRead r w c) (s .hasRead w c) (max (at (r .tables .read) c 0) p) (max (s .read c) p) (at (r .tables .read) c 0) (s .read c) (tie .reads-are w c (z .from-one) (z .to-crews) a b) (omega (arith, tie .read-is c a b)) (tie .read-is c a b)
 
   pub accepts-abandon : (p : ℕ) → Working r w → lowOf r w < p → p < highOf r w → Accepts top (r .head .sizes .cells) s w (Operation.abandons p)
   accepts-abandon p k a b = let o = of-open (k .has) in (o .1, omega (arith, o .2), omega (arith, o .3))
@@ -310,7 +265,7 @@ module _ {V : Type 0} (d : V) (r : Register V) (s : RegisterView V) (tie : Tie d
   }
 
   pub touched : (u : ℕ) → 1 ≤ u → u ≤ r .head .sizes .crews → touches r w u ≡ conflicts s w u (r .head .sizes .cells)
-  touched u a b = some-meets (λ c. hasRead r u c && hasWritten r w c) s w u (r .head .sizes .cells) (λ c x y. ap₂ _&&_ (tie .reads-are u c a b x y) (tie .writes-are w c (z .from-one) (z .to-m) x y))
+  touched u a b = some-meets (λ c. hasRead r u c && hasWritten r w c) s w u (r .head .sizes .cells) (λ c x y. ap₂ _&&_ (tie .reads-are u c a b x y) (tie .writes-are w c (z .from-one) (z .to-crews) x y))
 
   pub accepts-commit : (p : ℕ) → Working r w → commitLow r w < p → p < highOf r w → ((c : ℕ) → s .hasWritten w c ≡ true → (1 ≤ c) × (c ≤ r .head .sizes .cells)) → Accepts top (r .head .sizes .cells) s w (Operation.commits p)
   accepts-commit p k a b range = let o = of-open (k .has) in
@@ -325,7 +280,7 @@ module _ {V : Type 0} (d : V) (r : Register V) (s : RegisterView V) (tie : Tie d
       cell : (c : ℕ) → s .hasWritten w c ≡ true → (s .written c < p) × (s .read c < p)
       cell c e =
           let i = range c e in
-          let f : hasWritten r w c ≡ true = tie .writes-are w c (z .from-one) (z .to-m) (i .0) (i .1) ∙ e in
+          let f : hasWritten r w c ≡ true = tie .writes-are w c (z .from-one) (z .to-crews) (i .0) (i .1) ∙ e in
           let l : of-cell c ≤ most of-cell (r .head .sizes .cells) = most-at of-cell (r .head .sizes .cells) c (i .0) (i .1) in
           let l′ : max (at (r .tables .written) c 0) (at (r .tables .read) c 0) ≤ most of-cell (r .head .sizes .cells) = rw f at l in
           (omega (arith, tie .written-is c (i .0) (i .1)), omega (arith, tie .read-is c (i .0) (i .1)))
@@ -344,7 +299,7 @@ module _ {V : Type 0} (d : V) (r : Register V) (s : RegisterView V) (tie : Tie d
   pub tie-commit : (p : ℕ) → Working r w → Tie d (committedAt d r w p .left) (viewAfter top (r .head .sizes .cells) s w (Operation.commits p))
   tie-commit p k = record {
     value-is = λ c a b. at-each (λ c v. cond (hasWritten r w c) (ownOf d r w c) v) (r .tables .values) c d a (omega (arith, z .fits .values))
-        ∙ cond-same (hasWritten r w c) (s .hasWritten w c) (ownOf d r w c) (s .own w c) (at (r .tables .values) c d) (s .value c) (wr c a b) (tie .own-is w c (z .from-one) (z .to-m) a b) (tie .value-is c a b);
+        ∙ cond-same (hasWritten r w c) (s .hasWritten w c) (ownOf d r w c) (s .own w c) (at (r .tables .values) c d) (s .value c) (wr c a b) (tie .own-is w c (z .from-one) (z .to-crews) a b) (tie .value-is c a b);
     written-is = λ c a b. at-each (λ c x. cond (hasWritten r w c) p x) (r .tables .written) c 0 a (omega (arith, z .fits .written))
         ∙ cond-same (hasWritten r w c) (s .hasWritten w c) p p (at (r .tables .written) c 0) (s .written c) (wr c a b) refl (tie .written-is c a b);
     read-is = read-raised p;
@@ -358,7 +313,7 @@ module _ {V : Type 0} (d : V) (r : Register V) (s : RegisterView V) (tie : Tie d
   }
     where
       wr : (c : ℕ) → 1 ≤ c → c ≤ r .head .sizes .cells → hasWritten r w c ≡ s .hasWritten w c
-      wr c a b = tie .writes-are w c (z .from-one) (z .to-m) a b
+      wr c a b = tie .writes-are w c (z .from-one) (z .to-crews) a b
 
       lower : ℕ → JobRecord → JobRecord
       lower = λ u j. cond (otherReader r w u) (lowered p j) j

@@ -6,17 +6,20 @@ use Rattle.std.specs.declared.option.Option.{Option}
 use Rattle.std.specs.declared.option.Option.the-variants.{Some, None}
 use Rattle.std.specs.declared.result.Result.{Result}
 use Rattle.std.specs.declared.result.Result.the-variants.{Ok, Err}
+use Rattle.terms.specs.declared.refusals.TableName.{TableName}
 use Rattle.terms.specs.declared.refusals.Refusal.{Refusal}
 use Rattle.terms.specs.declared.refusals.Refusal.the-variants.{NoCrew, NoCell, JobOpen, NoJob, PlacesSpent, BookFull, Stale, NoPlace, WrongTable, Damaged, BadLine, PaperFull, BadSize, NotFilled}
 use Rattle.history.specs.Events.{Operation, History, openings}
 use Rattle.history.specs.Events.Operation.{opens, reads, writes, commits, abandons}
 use Rattle.history.specs.Events.Event.{by}
-use Rattle.history.specs.WellMade.{Calls}
+use Rattle.history.specs.WellMade.{Calls, asked}
 use Rattle.rules.specs.declared.calls.Call.{Call}
 use Rattle.rules.specs.declared.calls.Call.the-variants.{Open, Read, Write, Commit, Abandon}
 use Rattle.rules.specs.declared.calls.Answer.{Answer}
 use Rattle.rules.specs.declared.calls.Answer.the-variants.{Opened, Told, Stored, Ended}
-use Rattle.rules.specs.JobCalls.{crewOf}
+use Rattle.rules.specs.Contents.{Fits}
+use Rattle.rules.specs.Registers.{Register, lowOf, highOf}
+use Rattle.rules.specs.JobCalls.{Outcome, crewOf, refused, abandonOutcome, outcome}
 use Rattle.rules.specs.Runs.{Step}
 
 ---- The history of a run
@@ -100,3 +103,20 @@ eventsOf (k ∷ ks) = by (crewOf k) (operation k) ∷ eventsOf ks
 abbrev pub madeBy : {V : Type 0} → List (Step V) → List (Call V)
 madeBy [] = []
 madeBy (step ∷ log) = step .0 ∷ madeBy log
+
+---- What a history leaves out, and what it has
+
+-- of a refusal: where it is no step, the call altered nothing and asked for no place; where it counts as an abandon, the call did what abandon does, and ended the job at that place
+abbrev pub RefusalIsTrue : {V : Type 0} → (ℕ → ℕ → ℕ) → Register V → Call V → Outcome V → Refusal → Option (Operation V V ℕ) → Type 0
+RefusalIsTrue pick r k o e None = o ≡ refused e r
+RefusalIsTrue pick r k o e (Some step) = (o ≡ abandonOutcome pick r (crewOf k) (λ p. Err e)) × (step ≡ abandons (pick (lowOf r (crewOf k)) (highOf r (crewOf k))))
+
+-- of an answer: the call is a step, namely the operation that it asks for
+abbrev pub AnswerIsTrue : {V : Type 0} → (ℕ → ℕ → ℕ) → Register V → Call V → Outcome V → Result (Answer V) Refusal → Type 0
+AnswerIsTrue {V} pick r k o (Ok a) = (step : Operation V V ℕ) × (operationOf k (Ok a) ≡ Some step) × (asked step ≡ operation k)
+AnswerIsTrue pick r k o (Err e) = RefusalIsTrue pick r k o e (operationRefused e)
+
+pub record HistoriesAreTrue (V : Type 0) : Type 0 where
+  pub answers : (d : V) (pick : ℕ → ℕ → ℕ) (r : Register V) (k : Call V) → AnswerIsTrue pick r k (outcome d pick r k) (outcome d pick r k .answer)
+  -- a call that is handed a table of another length than the head's alters nothing, and is answered so
+  pub wrong-tables : (d : V) (pick : ℕ → ℕ → ℕ) (r : Register V) (k : Call V) → (Fits (r .head .sizes) (r .tables) → ⊥) → (table : TableName) × (outcome d pick r k ≡ refused (WrongTable table) r)

@@ -1,5 +1,6 @@
 // What the rules promise: theorems on every run of job calls, each the contract of a function that does nothing.
 ghost use Rattle.guarantee.specs.RuleFacts.{NoOutcomeDependsOnDefault, EveryCallCanBePerformed, CommitBoundIsLargest};
+ghost use Rattle.guarantee.specs.Histories.{HistoriesAreTrue};
 ghost use Rattle.guarantee.specs.Opacity.{EveryRunIsOpaque, EveryMomentIsOpaque};
 ghost use Rattle.guarantee.specs.Permissiveness.{RegisterIsPermissive, AcceptedCallsHaveAnOrder, EveryListCanBePerformed};
 
@@ -20,6 +21,13 @@ pub fn every_call_can_be_performed<V>() -> u8
 // The low bound of a commit is the largest of the numbers that it must not be under.
 pub fn commit_bound_is_the_largest<V>() -> u8
     ensures { λ _. ⌜ CommitBoundIsLargest V ⌝ }
+{
+    0
+}
+
+// What a run's history leaves out altered nothing, and what it has was done.
+pub fn histories_are_true<V>() -> u8
+    ensures { λ _. ⌜ HistoriesAreTrue V ⌝ }
 {
     0
 }
