@@ -14,8 +14,9 @@ use Rattle.history.specs.Events.Event.{by}
 use Rattle.history.specs.Projections.{projection, isActive, endPlace, WellFormed}
 use Rattle.history.specs.Precedence.{ReadGlobally}
 use Rattle.history.specs.WellMade.{WellMade}
-use Rattle.history.specs.Bounds.{Bounds, ClosesIn, Moves, boundsByJob, CrewMoves}
+use Rattle.history.specs.Bounds.{Bounds, boundsByJob, CrewMoves}
 use Rattle.history.proofs.Moments.{none-some, unopened-projection, projection-zero}
+use Rattle.history.proofs.JobBounds.{ClosesIn, Moves}
 use Rattle.history.proofs.Tracking.{active-unplaced, reader-active}
 
 open-job-step : (opening ending same : Bool) (n j : ℕ) → j ≤ n → cond (opening && same) (suc n) (cond (ending && same) 0 j) ≤ cond opening (suc n) n
@@ -164,11 +165,11 @@ module _ {V : Type 0} (top : ℕ) (run : History V) (b : Bounds) (w : ℕ) (b′
     written-up = cm .written-up;
     read-up = cm .read-up;
     ends = cm .ends;
-    sees-to = λ n. rw (eq-eqb (openJob run w) (openJob run w) refl, open-job-active run w (wm .0), crew-of-open-job run w (wm .0)) (cm .own .3 n);
+    sees-to = λ n. rw (eq-eqb (openJob run w) (openJob run w) refl, open-job-active run w (wm .0), crew-of-open-job run w (wm .0)) (cm .own .1 n);
   }
     where
       at-owner : (z : ℕ) (k : Bool) → eqb (openJob run w) z ≡ k → isActive (projection (byJobs run) z) ≡ true → (b .low (crewOf run z) ≤ b′ .low (crewOf run z)) × (b′ .high (crewOf run z) ≤ b .high (crewOf run z)) × (b′ .low (crewOf run z) + 2 ≤ b′ .high (crewOf run z))
-      at-owner z true e o = rw (← eqb-true (openJob run w) z e, crew-of-open-job run w (wm .0)) (cm .own .0, cm .own .1, cm .own .2)
+      at-owner z true e o = rw (← eqb-true (openJob run w) z e, crew-of-open-job run w (wm .0)) (cm .own .0)
       at-owner z false e o = let n = other-crew (wm .1) z (eqb-false (openJob run w) z e) o in cm .others (crewOf run z) (n .0) (n .1)
 
       closes : (z : ℕ) (k : Bool) → eqb (openJob run w) z ≡ k → ClosesIn (endPlace (projection (byJobs run) z)) (cond (isActive (projection (byJobs run) z)) (b .low (crewOf run z)) 0) (cond (isActive (projection (byJobs run) z)) (b .high (crewOf run z)) top)
@@ -192,7 +193,7 @@ module _ {V : Type 0} (top : ℕ) (run : History V) (b : Bounds) (w : ℕ) (b′
   }
     where
       at-owner : (z : ℕ) (k : Bool) → eqb (openJob run w) z ≡ k → isActive (projection (byJobs run) z) ≡ true → (b .low (crewOf run z) ≤ b′ .low (crewOf run z)) × (b′ .high (crewOf run z) ≤ b .high (crewOf run z)) × (b′ .low (crewOf run z) + 2 ≤ b′ .high (crewOf run z))
-      at-owner z true e o = rw (← eqb-true (openJob run w) z e, crew-of-open-job run w (wm .0)) (cm .own .0, cm .own .1, cm .own .2)
+      at-owner z true e o = rw (← eqb-true (openJob run w) z e, crew-of-open-job run w (wm .0)) (cm .own)
       at-owner z false e o = let n = other-crew (wm .1) z (eqb-false (openJob run w) z e) o in cm .others (crewOf run z) (n .0) (n .1)
 
       closes : (z : ℕ) (k : Bool) → eqb (openJob run w) z ≡ k → ClosesIn (endPlace (projection (byJobs run) z)) (cond (isActive (projection (byJobs run) z)) (b .low (crewOf run z)) 0) (cond (isActive (projection (byJobs run) z)) (b .high (crewOf run z)) top)

@@ -8,7 +8,7 @@ use Rattle.history.specs.Values.{ReadsCurrent}
 use Rattle.history.specs.Precedence.{In, Once, Respects, SerializationOrder}
 use Rattle.history.specs.SerialExecution.{SeriallyExplained, Opaque}
 use Rattle.history.specs.WellMade.{WellMade, Calls, callsOf, WellMadeList}
-use Rattle.history.specs.Bounds.{Placed, sortKey, Ascending, Bounds, Tracked, BoundsRun, CrewRun}
+use Rattle.history.specs.Bounds.{Placed, sortKey, Ascending, Bounds, Tracked, boundsByJob, CrewRun}
 use Rattle.history.specs.Views.{RegisterView, ViewRun, ViewAgrees}
 use Rattle.history.specs.Acceptance.{AcceptedAt, position, positions, Chooser, KeepsLaw, scriptChooser, reverseOnto, Sizes, AcceptedWith}
 
@@ -40,11 +40,11 @@ PlacesGiveAnOrder V = (first : ℕ → V) (h : History V) (low high : ℕ → �
 
 ---- Opacity
 
--- bounds that every call moves as it should agree with the four rules
+-- bounds of crews that every call moves as it should agree, taken by job, with the four rules
 abbrev pub MovedBoundsAgree : Type 0 → Type 0
-MovedBoundsAgree V = (top : ℕ) (h : History V) (b : Bounds) → 2 ≤ top → WellFormed h → BoundsRun top h b → Tracked h b
+MovedBoundsAgree V = (top : ℕ) (run : History V) (b : Bounds) → 2 ≤ top → WellMade run → CrewRun top run b → Tracked (byJobs run) (boundsByJob top run b)
 
--- so a register whose every call moves the bounds of crews as it should, and whose every read is current, is opaque
+-- so a run whose every call moves the bounds as it should, and whose every read is current, is opaque
 abbrev pub BoundsAreOpaque : Type 0 → Type 0
 BoundsAreOpaque V = (first : ℕ → V) (top : ℕ) (run : History V) (b : Bounds) → 2 ≤ top → WellMade run → ReadsCurrent first (byJobs run) → CrewRun top run b → Opaque first run
 
