@@ -8,7 +8,7 @@ use native.Mathlib.Omega.{arith}
 use lib.Dec.{eqb, leb}
 use Rattle.std.proofs.shelf.Tests.{eqb-true, eqb-false, both-ways, leb-true, leb-false, and-parts, or-cases}
 use Rattle.std.specs.declared.option.Option.the-variants.{None}
-use Rattle.history.specs.Events.{Operation, Event, Events, History, openings, openJob, byJobs}
+use Rattle.history.specs.Events.{Operation, Event, Events, History, isOpening, openings, openJob, byJobs}
 use Rattle.history.specs.Events.Operation.{opens, reads, writes, commits, abandons}
 use Rattle.history.specs.Events.Event.{by}
 use Rattle.history.specs.Projections.{projection, endPlace, WellFormed}
@@ -21,7 +21,7 @@ use Rattle.history.specs.Views.ViewRun.{starts, goes-on}
 use Rattle.history.specs.Acceptance.{AcceptedAt, positions}
 use Rattle.history.proofs.Moments.{none-some, precedes-later, read-later, committed-later, unopened-projection}
 use Rattle.history.proofs.Tracking.{ended-place, active-unplaced}
-use Rattle.history.proofs.Crews.{openings-by-job, one-crew, open-job-active, well-formed}
+use Rattle.history.proofs.Crews.{openings-by-job, openings-tail, one-crew, open-job-active, well-formed}
 use Rattle.history.proofs.Viewing.{ViewFacts, flag-when-written, written-when-flag, RunFacts, run-facts}
 use Rattle.history.proofs.Alike.{Alike, alike-sym, precedes-alike, openings-alike, job-alike, by-jobs-alike, calls-alike}
 use Rattle.history.proofs.Alike.SameCall.{open-open, read-read, commit-commit}
@@ -32,12 +32,11 @@ pub record RisingPlaces {V R P : Type 0} (top : ℕ) (at : ℕ → ℕ) (run : E
   pub rises : (x y : ℕ) → (x ≡ y → ⊥) → Precedes (byJobs run) x y → at x < at y
   pub within : (x : ℕ) → 1 ≤ x → x ≤ openings run → (1 ≤ at x) × (at x + 2 ≤ top)
 
-pub rising-tail : {V R P : Type 0} (top : ℕ) (at : ℕ → ℕ) (w : ℕ) (d : Operation V R P) (run : Events V R P) → RisingPlaces top at (by w d ∷ run) → RisingPlaces top at run
-rising-tail top at w opens run f = record { rises = λ x y n b. f .rises x y n (precedes-later (by (suc (openings run)) opens) b); within = λ x p q. f .within x p (omega arith) }
-rising-tail top at w (reads c v) run f = record { rises = λ x y n b. f .rises x y n (precedes-later (by (openJob run w) (reads c v)) b); within = f .within }
-rising-tail top at w (writes c v) run f = record { rises = λ x y n b. f .rises x y n (precedes-later (by (openJob run w) (writes c v)) b); within = f .within }
-rising-tail top at w (commits p) run f = record { rises = λ x y n b. f .rises x y n (precedes-later (by (openJob run w) (commits p)) b); within = f .within }
-rising-tail top at w (abandons p) run f = record { rises = λ x y n b. f .rises x y n (precedes-later (by (openJob run w) (abandons p)) b); within = f .within }
+pub rising-tail : {V R P : Type 0} (top : ℕ) (at : ℕ → ℕ) (w : ℕ) (o : Operation V R P) (run : Events V R P) → RisingPlaces top at (by w o ∷ run) → RisingPlaces top at run
+rising-tail top at w o run f = record {
+  rises = λ x y n b. f .rises x y n (precedes-later (by (cond (isOpening o) (suc (openings run)) (openJob run w)) o) b);
+  within = λ x p q. f .within x p (omega (arith, openings-tail w o run));
+}
 
 pub rising-alike : {V R P S Q : Type 0} (top : ℕ) (at : ℕ → ℕ) {h : Events V R P} {g : Events V S Q} → Alike h g → RisingPlaces top at h → RisingPlaces top at g
 rising-alike top at a f = record { rises = λ x y n b. f .rises x y n (precedes-alike (alike-sym (by-jobs-alike a)) b); within = λ x p q. f .within x p (rw (openings-alike a) q) }

@@ -1,17 +1,16 @@
 -- The four rules look at the calls alone: events that differ only in their answers have the same precedence.
-use mathlib.Core.Path.{_≡_, refl, ap, ap₂, subst}
+use mathlib.Core.Path.{_≡_, refl, ap₂, subst}
 use mathlib.Core.List.{List, [], _∷_}
 use mathlib.Core.Bool.{cond}
 use mathlib.Core.Logic.{_⊎_, inl, inr, _↔_}
 use Prim.Native.Nat.{ℕ, suc}
-use lib.Dec.{eqb}
-use Rattle.history.specs.Events.{Operation, Events, History, openings, openJob, byJobs}
+use Rattle.history.specs.Events.{Operation, Events, History, isOpening, isEnding, openings, openJob, byJobs}
 use Rattle.history.specs.Events.Operation.{opens, reads, writes, commits, abandons}
 use Rattle.history.specs.Events.Event.{by}
 use Rattle.history.specs.Precedence.{Extends, Occurs, Wrote, ReadGlobally, CommittedCell, Ended, Precedes, SerializationOrder}
 use Rattle.history.specs.Precedence.Extends.{here, later}
 use Rattle.history.specs.Precedence.Precedes.{real-time, committed-read, read-committed, committed-committed}
-use Rattle.history.specs.WellMade.{callsOf, InRange}
+use Rattle.history.specs.WellMade.{asked, callsOf, NamesCell, InRange}
 
 -- the same call
 pub data SameCall {V R P S Q : Type 0} : Operation V R P → Operation V S Q → Type 0 where
@@ -106,41 +105,47 @@ module _ {V R P S Q : Type 0} where
   precedes-alike a (read-committed s w e) = let k = occurs-commit-alike s a in read-committed (k .2) (wrote-alike (k .3) w) (read-alike (k .3) e)
   precedes-alike a (committed-committed s w e) = let k = occurs-commit-alike s a in committed-committed (k .2) (wrote-alike (k .3) w) (committed-alike (k .3) e)
 
+  same-opening : {d : Operation V R P} {e : Operation V S Q} → SameCall d e → isOpening d ≡ isOpening e
+  same-opening open-open = refl
+  same-opening read-read = refl
+  same-opening write-write = refl
+  same-opening commit-commit = refl
+  same-opening abandon-abandon = refl
+
+  same-ending : {d : Operation V R P} {e : Operation V S Q} → SameCall d e → isEnding d ≡ isEnding e
+  same-ending open-open = refl
+  same-ending read-read = refl
+  same-ending write-write = refl
+  same-ending commit-commit = refl
+  same-ending abandon-abandon = refl
+
+  same-cell : (n : ℕ) {d : Operation V R P} {e : Operation V S Q} → SameCall d e → NamesCell n d → NamesCell n e
+  same-cell n open-open r = r
+  same-cell n read-read r = r
+  same-cell n write-write r = r
+  same-cell n commit-commit r = r
+  same-cell n abandon-abandon r = r
+
   -- what else looks at the calls alone
   pub openings-alike : {h : Events V R P} {g : Events V S Q} → Alike h g → openings h ≡ openings g
   openings-alike none = refl
-  openings-alike (more open-open a) = ap suc (openings-alike a)
-  openings-alike (more read-read a) = openings-alike a
-  openings-alike (more write-write a) = openings-alike a
-  openings-alike (more commit-commit a) = openings-alike a
-  openings-alike (more abandon-abandon a) = openings-alike a
+  openings-alike (more m a) = ap₂ (λ b n. cond b (suc n) n) (same-opening m) (openings-alike a)
 
   pub job-alike : {h : Events V R P} {g : Events V S Q} → Alike h g → (w : ℕ) → openJob h w ≡ openJob g w
   job-alike none w = refl
-  job-alike (more {x = u} open-open a) w = ap₂ (cond (eqb u w)) (ap suc (openings-alike a)) (job-alike a w)
-  job-alike (more read-read a) w = job-alike a w
-  job-alike (more write-write a) w = job-alike a w
-  job-alike (more {x = u} commit-commit a) w = ap (cond (eqb u w) 0) (job-alike a w)
-  job-alike (more {x = u} abandon-abandon a) w = ap (cond (eqb u w) 0) (job-alike a w)
+  job-alike (more m a) w = rw (same-opening m, same-ending m, openings-alike a, job-alike a w)
 
   pub range-alike : (n m : ℕ) {h : Events V R P} {g : Events V S Q} → Alike h g → InRange n m h → InRange n m g
   range-alike n m none r = tt
-  range-alike n m (more open-open a) r = (r .0, r .1, range-alike n m a (r .2))
-  range-alike n m (more read-read a) r = (r .0, r .1, range-alike n m a (r .2))
-  range-alike n m (more write-write a) r = (r .0, r .1, range-alike n m a (r .2))
-  range-alike n m (more commit-commit a) r = (r .0, r .1, range-alike n m a (r .2))
-  range-alike n m (more abandon-abandon a) r = (r .0, r .1, range-alike n m a (r .2))
+  range-alike n m (more s a) r = (r .0, same-cell n s (r .1), range-alike n m a (r .2))
 
   more-at : (x y : ℕ) {d : Operation V R P} {e : Operation V S Q} {h : Events V R P} {g : Events V S Q} → x ≡ y → SameCall d e → Alike h g → Alike (by x d ∷ h) (by y e ∷ g)
   more-at x y {d = d} {e = e} {h = h} {g = g} q m a = subst (λ z. Alike (by x d ∷ h) (by z e ∷ g)) q (more m a)
 
   pub by-jobs-alike : {h : Events V R P} {g : Events V S Q} → Alike h g → Alike (byJobs h) (byJobs g)
   by-jobs-alike none = none
-  by-jobs-alike (more {h = h} {g = g} open-open a) = more-at (suc (openings h)) (suc (openings g)) (ap suc (openings-alike a)) open-open (by-jobs-alike a)
-  by-jobs-alike (more {x = x} {h = h} {g = g} read-read a) = more-at (openJob h x) (openJob g x) (job-alike a x) read-read (by-jobs-alike a)
-  by-jobs-alike (more {x = x} {h = h} {g = g} write-write a) = more-at (openJob h x) (openJob g x) (job-alike a x) write-write (by-jobs-alike a)
-  by-jobs-alike (more {x = x} {h = h} {g = g} commit-commit a) = more-at (openJob h x) (openJob g x) (job-alike a x) commit-commit (by-jobs-alike a)
-  by-jobs-alike (more {x = x} {h = h} {g = g} abandon-abandon a) = more-at (openJob h x) (openJob g x) (job-alike a x) abandon-abandon (by-jobs-alike a)
+  by-jobs-alike (more {x = w} {d = o} {e = o′} {h = h} {g = g} m a) = more-at (cond (isOpening o) (suc (openings h)) (openJob h w)) (cond (isOpening o′) (suc (openings g)) (openJob g w))
+      (rw (same-opening m, openings-alike a, job-alike a w)) m (by-jobs-alike a)
 
 module _ {V R P S Q : Type 0} where
   pub order-alike : {h : Events V R P} {g : Events V S Q} {row : List ℕ} → Alike h g → SerializationOrder h row → SerializationOrder g row
@@ -151,13 +156,16 @@ module _ {V R P S Q : Type 0} where
     rules = λ x y i j n b. l .rules x y i j n (precedes-alike (alike-sym a) b);
   }
 
+asked-same : {V : Type 0} (o : Operation V V ℕ) → SameCall o (asked o)
+asked-same opens = open-open
+asked-same (reads c v) = read-read
+asked-same (writes c v) = write-write
+asked-same (commits p) = commit-commit
+asked-same (abandons p) = abandon-abandon
+
 pub calls-alike : {V : Type 0} (run : History V) → Alike run (callsOf run)
 calls-alike [] = none
-calls-alike (by w opens ∷ run) = more open-open (calls-alike run)
-calls-alike (by w (reads c v) ∷ run) = more read-read (calls-alike run)
-calls-alike (by w (writes c v) ∷ run) = more write-write (calls-alike run)
-calls-alike (by w (commits p) ∷ run) = more commit-commit (calls-alike run)
-calls-alike (by w (abandons p) ∷ run) = more abandon-abandon (calls-alike run)
+calls-alike (by w o ∷ run) = more (asked-same o) (calls-alike run)
 
 pub answers-aside : {V : Type 0} (run : History V) (row : List ℕ) → SerializationOrder (byJobs run) row ↔ SerializationOrder (byJobs (callsOf run)) row
 answers-aside run row = let a = by-jobs-alike (calls-alike run) in ((λ l. order-alike a l), (λ l. order-alike (alike-sym a) l))

@@ -14,6 +14,7 @@ use Rattle.history.specs.Precedence.{SerializationOrder}
 use Rattle.history.specs.WellMade.{Calls, UpTo, InRange, WellMadeList}
 use Rattle.history.specs.Views.{RegisterView, conflicts, Accepts, viewAfter, ViewRun}
 use Rattle.history.specs.Acceptance.{placesOf, position, positions, Chooser, KeepsLaw, nextFitted, scriptChooser, reverseOnto, cellsLowerBound, isOpenReader, readersLowerBound, commitLowerBound, Sizes, AtWork, AcceptsWith, RunWith, AcceptedWith}
+use Rattle.history.proofs.Crews.{openings-tail}
 use Rattle.history.proofs.Viewing.{RunFacts, run-facts}
 use Rattle.history.proofs.Alike.{Alike, alike-sym, openings-alike, range-alike, calls-alike}
 use Rattle.history.proofs.Permissiveness.{positions-accepted, accepted-has-order}
@@ -84,6 +85,10 @@ module _ {V : Type 0} (n : ℕ) (s : RegisterView V) (w : ℕ) where
       go false e ih = omega arith
 
 ---- A crew with an open job is in range
+ended-range : (m j u : ℕ) (b : Bool) → 1 ≤ cond b 0 j → (1 ≤ j → UpTo m u) → UpTo m u
+ended-range m j u true a ih = absurd (omega arith)
+ended-range m j u false a ih = ih a
+
 job-range : {V R P : Type 0} (n m : ℕ) (run : Events V R P) → InRange n m run → (u : ℕ) → 1 ≤ openJob run u → UpTo m u
 job-range n m [] r u a = absurd (omega arith)
 job-range n m (by w opens ∷ run) r u a = go (eqb w u) refl a (job-range n m run (r .2) u)
@@ -93,16 +98,8 @@ job-range n m (by w opens ∷ run) r u a = go (eqb w u) refl a (job-range n m ru
     go false e a ih = ih a
 job-range n m (by w (reads c v) ∷ run) r u a = job-range n m run (r .2) u a
 job-range n m (by w (writes c v) ∷ run) r u a = job-range n m run (r .2) u a
-job-range n m (by w (commits p) ∷ run) r u a = go (eqb w u) a (job-range n m run (r .2) u)
-  where
-    go : (b : Bool) → 1 ≤ cond b 0 (openJob run u) → (1 ≤ openJob run u → UpTo m u) → UpTo m u
-    go true a ih = absurd (omega arith)
-    go false a ih = ih a
-job-range n m (by w (abandons p) ∷ run) r u a = go (eqb w u) a (job-range n m run (r .2) u)
-  where
-    go : (b : Bool) → 1 ≤ cond b 0 (openJob run u) → (1 ≤ openJob run u → UpTo m u) → UpTo m u
-    go true a ih = absurd (omega arith)
-    go false a ih = ih a
+job-range n m (by w (commits p) ∷ run) r u a = ended-range m (openJob run u) u (eqb w u) a (job-range n m run (r .2) u)
+job-range n m (by w (abandons p) ∷ run) r u a = ended-range m (openJob run u) u (eqb w u) a (job-range n m run (r .2) u)
 
 module _ {V : Type 0} (z : Sizes) (first : ℕ → V) (own : ℕ → ℕ → V) where
   ---- What is accepted with a chooser is accepted at the places that it gave
@@ -187,16 +184,9 @@ module _ {V : Type 0} (z : Sizes) (first : ℕ → V) (own : ℕ → ℕ → V) 
   range-tail : (w : ℕ) (d : Operation V V ℕ) (run : History V) → InRange (z .cells) (z .crews) (by w d ∷ run) → InRange (z .cells) (z .crews) run
   range-tail w d run r = r .2
 
-  openings-tail : (w : ℕ) (d : Operation V V ℕ) (run : History V) → openings (by w d ∷ run) ≤ z .entries → openings run ≤ z .entries
-  openings-tail w opens run f = omega arith
-  openings-tail w (reads c v) run f = f
-  openings-tail w (writes c v) run f = f
-  openings-tail w (commits p) run f = f
-  openings-tail w (abandons p) run f = f
-
   view-run-by-script : {run : History V} {s : RegisterView V} → ViewRun (z .top) (z .cells) first own run s → InRange (z .cells) (z .crews) run → openings run ≤ z .entries → ByScript run s
   view-run-by-script ViewRun.starts r f = λ qs. RunWith.starts
-  view-run-by-script (ViewRun.goes-on {run = run} {s = s} {w = w} {o = d} g ac) r f = accepts-by-script run s (run-facts (z .top) (z .cells) first own g) (high-below g) w d ac r f (view-run-by-script g (range-tail w d run r) (openings-tail w d run f))
+  view-run-by-script (ViewRun.goes-on {run = run} {s = s} {w = w} {o = d} g ac) r f = accepts-by-script run s (run-facts (z .top) (z .cells) first own g) (high-below g) w d ac r f (view-run-by-script g (range-tail w d run r) (omega (arith, openings-tail w d run, f)))
 
   pub positions-script : (cs : Calls V) → z .entries + 2 ≤ z .top → WellMadeList (z .cells) (z .crews) (z .entries) cs → (row : List ℕ) → SerializationOrder (byJobs cs) row → AcceptedWith scriptChooser z first own (reverseOnto (positions (position row) cs) []) cs
   positions-script cs t wl row l =

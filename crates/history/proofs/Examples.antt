@@ -25,6 +25,7 @@ use Rattle.history.proofs.Rows.{one-way, in-cases, in-nil}
 use Rattle.history.proofs.Ordering.{ascending-is-order, orders-explain}
 use Rattle.history.proofs.Crews.{well-formed}
 use Rattle.history.proofs.Viewing.{views-agree}
+use Rattle.history.proofs.Alike.{answers-aside}
 use Rattle.history.proofs.Choosing.{script-keeps-law, run-with-view-run, chosen-has-order}
 
 ---- Two jobs that precede each other have no order
@@ -222,4 +223,7 @@ read-skew = record {
   two-before-one = skew-21;
   not-explained = skew-unexplained;
   no-order = no-order (byJobs readSkew) (lit≤ tt) skew-12 skew-21;
+  no-script = λ numbers a.
+      let k = chosen-has-order small firstValues (λ w c. 0) scriptChooser script-keeps-law numbers (callsOf readSkew) (lit≤ tt) a in
+      no-order (byJobs readSkew) (lit≤ tt) skew-12 skew-21 (k .0) (answers-aside readSkew (k .0) .1 (k .1));
 }

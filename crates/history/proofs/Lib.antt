@@ -4,6 +4,7 @@ pub mod Moments
 pub mod Explaining
 pub mod Serially
 pub mod Ordering
+pub mod JobBounds
 pub mod Tracking
 pub mod Crews
 pub mod Opacity

@@ -101,11 +101,7 @@ module _ {V : Type 0} where
 
   -- an active job has not committed
   pub well-formed-tail : (a : Event V V ℕ) (h : History V) → WellFormed (a ∷ h) → WellFormed h
-  well-formed-tail (by y opens) h wf = wf .1
-  well-formed-tail (by y (reads c v)) h wf = wf .1
-  well-formed-tail (by y (writes c v)) h wf = wf .1
-  well-formed-tail (by y (commits c)) h wf = wf .1
-  well-formed-tail (by y (abandons c)) h wf = wf .1
+  well-formed-tail (by x o) h wf = wf .1
 
   active-step : (y x : ℕ) (h : History V) (d : Operation V V ℕ) (b : Bool) → eqb y x ≡ b → WellFormed (by y d ∷ h) → (isActive (projection h x) ≡ true → isCommitted (projection h x) ≡ false) → isActive (cond b (d ∷ projection h x) (projection h x)) ≡ true → isCommitted (cond b (d ∷ projection h x) (projection h x)) ≡ false
   active-step y x h d false e wf ih o = ih o

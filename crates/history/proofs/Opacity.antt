@@ -13,10 +13,11 @@ use Rattle.history.specs.Precedence.Extends.{here, later}
 use Rattle.history.specs.Precedence.Precedes.{real-time, committed-read, read-committed, committed-committed}
 use Rattle.history.specs.SerialExecution.{SeriallyExplained, Opaque}
 use Rattle.history.specs.WellMade.{WellMade}
-use Rattle.history.specs.Bounds.{Bounds, Tracked, BoundsRun, boundsByJob, CrewMoves, CrewRun}
-use Rattle.history.specs.Bounds.BoundsRun.{starts, goes-on}
+use Rattle.history.specs.Bounds.{Bounds, Tracked, boundsByJob, CrewMoves, CrewRun}
 use Rattle.history.proofs.Moments.{none-some, well-formed-tail}
 use Rattle.history.proofs.Ordering.{places-give-order}
+use Rattle.history.proofs.JobBounds.{BoundsRun}
+use Rattle.history.proofs.JobBounds.BoundsRun.{starts, goes-on}
 use Rattle.history.proofs.Tracking.{tracked-step}
 use Rattle.history.proofs.Crews.{well-made-tail, well-formed, moves-read, moves-write, moves-commit, moves-abandon, moves-open}
 
@@ -49,12 +50,15 @@ pub bounds-run : {V : Type 0} (top : ℕ) {run : History V} {b : Bounds} → Cre
 bounds-run top (CrewRun.starts l u) t wm = BoundsRun.starts
 bounds-run top (CrewRun.goes-on {run = run} {b = b} {w = w} {o = d} {b′ = b′} r m) t wm = bounds-run-step top run b w d b′ t wm m (bounds-run top r t (well-made-tail (by w d) run wm))
 
+pub bounds-agree : {V : Type 0} (top : ℕ) (run : History V) (b : Bounds) → 2 ≤ top → WellMade run → CrewRun top run b → Tracked (byJobs run) (boundsByJob top run b)
+bounds-agree top run b t wm r = tracked top t (well-formed run wm) (bounds-run top r t wm)
+
 pub bounds-explained : {V : Type 0} (first : ℕ → V) (top : ℕ) (run : History V) (b : Bounds) → 2 ≤ top → WellMade run → ReadsCurrent first (byJobs run) → CrewRun top run b →
     (row : List ℕ) × SerializationOrder (byJobs run) row × SeriallyExplained first (byJobs run) row
 bounds-explained first top run b t wm rc r =
     let wf = well-formed run wm in
     let c = boundsByJob top run b in
-    let o = places-give-order first (byJobs run) (c .low) (c .high) wf rc (tracked top t wf (bounds-run top r t wm) .placed) in
+    let o = places-give-order first (byJobs run) (c .low) (c .high) wf rc (bounds-agree top run b t wm r .placed) in
     (o .0, o .1, o .3)
 
 ---- Each moment of a run is such a run

@@ -16,8 +16,9 @@ use Rattle.history.specs.Projections.{projection, isActive, endPlace, WellForm
 use Rattle.history.specs.Precedence.{Extends, Occurs, Wrote, ReadGlobally, CommittedCell, Ended, Precedes}
 use Rattle.history.specs.Precedence.Extends.{here, later}
 use Rattle.history.specs.Precedence.Precedes.{real-time, committed-read, read-committed, committed-committed}
-use Rattle.history.specs.Bounds.{PlacedApart, Bounds, Tracked, ClosesIn, SeesTo, Moves}
+use Rattle.history.specs.Bounds.{PlacedApart, Bounds, Tracked}
 use Rattle.history.proofs.Moments.{none-some, unopened-projection, well-formed-tail}
+use Rattle.history.proofs.JobBounds.{ClosesIn, SeesTo, Moves}
 
 -- bounds that close in keep jobs apart
 apart-later : (o p o′ p′ : Option ℕ) (lx ux ly uy lx′ ux′ ly′ uy′ : ℕ) → ClosesIn o lx ux o′ lx′ ux′ → ClosesIn p ly uy p′ ly′ uy′ → PlacedApart o lx ux p ly uy → PlacedApart o′ lx′ ux′ p′ ly′ uy′

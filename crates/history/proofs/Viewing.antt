@@ -22,7 +22,7 @@ use Rattle.history.specs.Views.ViewRun.{starts, goes-on}
 use Rattle.history.proofs.Moments.{none-some, buffered-wrote, unbuffered-unwritten, unopened-projection}
 use Rattle.history.proofs.Tracking.{read-cases, reader-active}
 use Rattle.history.proofs.Crews.{openings-by-job, open-job-numbered, one-crew, well-formed}
-use Rattle.history.proofs.Opacity.{tracked, bounds-run, bounds-opaque}
+use Rattle.history.proofs.Opacity.{tracked, bounds-agree, bounds-opaque}
 
 updated-at : {A : Type 0} (f : ℕ → A) (k : ℕ) (v : A) → updated f k v k ≡ v
 updated-at f k v = rw (eq-eqb k k refl)
@@ -71,9 +71,9 @@ module _ {V : Type 0} (top n : ℕ) (first : ℕ → V) (run : History V) (s : R
   job-of-open : (w : ℕ) → 1 ≤ openJob run w → 1 ≤ s .job w
   job-of-open w a = rw (facts .job-is w) a
 
-  own-read : (w c : ℕ) (v : V) → Accepts top n s w (reads c v) → (b : Bool) → s .hasWritten w c ≡ b → (s .low w ≤ cond b (s .low w) (max (s .low w) (s .written c))) × (s .high w ≤ s .high w) × (cond b (s .low w) (max (s .low w) (s .written c)) + 2 ≤ s .high w) × ((Wrote (byJobs run) (openJob run w) c → ⊥) → s .written c ≤ cond b (s .low w) (max (s .low w) (s .written c)))
-  own-read w c v ac true e = (omega arith, omega arith, facts .room w (open-job-of w (ac .0)), λ nw. absurd (nw (written-when-flag w c (open-job-of w (ac .0)) e)))
-  own-read w c v ac false e = (omega arith, omega arith, ac .2 e, λ _. omega arith)
+  own-read : (w c : ℕ) (v : V) → Accepts top n s w (reads c v) → (b : Bool) → s .hasWritten w c ≡ b → ((s .low w ≤ cond b (s .low w) (max (s .low w) (s .written c))) × (s .high w ≤ s .high w) × (cond b (s .low w) (max (s .low w) (s .written c)) + 2 ≤ s .high w)) × ((Wrote (byJobs run) (openJob run w) c → ⊥) → s .written c ≤ cond b (s .low w) (max (s .low w) (s .written c)))
+  own-read w c v ac true e = ((omega arith, omega arith, facts .room w (open-job-of w (ac .0))), λ nw. absurd (nw (written-when-flag w c (open-job-of w (ac .0)) e)))
+  own-read w c v ac false e = ((omega arith, omega arith, ac .2 e), λ _. omega arith)
 
   raised : (w p q : ℕ) → 1 ≤ openJob run w → p ≡ q → (q ≤ max (s .highest) p) × ((c : ℕ) → ReadGlobally (byJobs run) (openJob run w) c → q ≤ cond (s .hasRead w c) (max (s .read c) p) (s .read c))
   raised w p q a e = (omega arith, λ c r. rw (facts .read-is w c a r) (omega arith))
@@ -224,7 +224,7 @@ module _ {V : Type 0} (top n : ℕ) (first : ℕ → V) (run : History V) (s : R
     read-is = λ u k a r. seen u k a (read-cases (openJob run u) k (by (openJob run w) (reads c v)) h r);
     closed-is = facts .closed-is;
     range = facts .range;
-    room = λ u a. room-after w u (viewAfter top n s w (reads c v) .low) (s .high) (λ _. crew-moves w (reads c v) ac .own .2) (λ u ne a. crew-moves w (reads c v) ac .others u ne a .2) a;
+    room = λ u a. room-after w u (viewAfter top n s w (reads c v) .low) (s .high) (λ _. crew-moves w (reads c v) ac .own .0 .2) (λ u ne a. crew-moves w (reads c v) ac .others u ne a .2) a;
   }
     where
       h : History V
@@ -381,5 +381,5 @@ views-agree first own top n run s t g = let k = run-facts top n first own g in r
   values-committed = k .view-facts .value-is;
   jobs-open = k .view-facts .job-is;
   jobs-counted = k .view-facts .opened-is;
-  tracked = tracked top t (well-formed run (k .well-made)) (bounds-run top (crew-run top n first own g) t (k .well-made));
+  tracked = bounds-agree top run (boundsOf s) t (k .well-made) (crew-run top n first own g);
 }

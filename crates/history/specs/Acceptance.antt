@@ -1,7 +1,7 @@
 -- Lists of calls that a register accepts whole: at the places of a script, and with a chooser that is asked for each place.
 use mathlib.Core.Path.{_≡_}
 use mathlib.Core.List.{List, [], _∷_}
-use mathlib.Core.Bool.{Bool, false, cond, not, _&&_}
+use mathlib.Core.Bool.{Bool, cond, not, _&&_}
 use Prim.Native.Nat.{ℕ, zero, suc, _+_, _≤_, _<_, max}
 use lib.Dec.{eqb, leb, ltb}
 use lib.ListN.{length}
@@ -11,7 +11,7 @@ use Rattle.history.specs.Events.{Operation, Events, History, endsAt, isEnding,
 use Rattle.history.specs.Events.Operation.{opens, reads, writes, commits, abandons}
 use Rattle.history.specs.Events.Event.{by}
 use Rattle.history.specs.WellMade.{Calls, callsOf, UpTo}
-use Rattle.history.specs.Views.{RegisterView, freshView, visible, conflicts, viewAfter, ViewRun}
+use Rattle.history.specs.Views.{RegisterView, freshView, visible, conflicts, RoomToRead, viewAfter, ViewRun}
 
 ---- At given places
 
@@ -118,7 +118,7 @@ pub record AtWork {V : Type 0} (z : Sizes) (s : RegisterView V) (w : ℕ) : Type
 -- when the register accepts a call, and with which answer, where the chooser is in condition k
 abbrev pub AcceptsWith : {V C : Type 0} → Chooser C → Sizes → C → RegisterView V → ℕ → Operation V V ℕ → Type 0
 AcceptsWith chooser z k s w opens = UpTo (z .crews) w × (s .job w ≡ 0) × (s .highest + 2 ≤ z .top) × (s .opened < z .entries)
-AcceptsWith chooser z k s w (reads c v) = AtWork z s w × UpTo (z .cells) c × (v ≡ visible s w c) × (s .hasWritten w c ≡ false → max (s .low w) (s .written c) + 2 ≤ s .high w)
+AcceptsWith chooser z k s w (reads c v) = AtWork z s w × UpTo (z .cells) c × (v ≡ visible s w c) × RoomToRead s w c
 AcceptsWith chooser z k s w (writes c v) = AtWork z s w × UpTo (z .cells) c
 AcceptsWith chooser z k s w (commits p) = AtWork z s w × (commitLowerBound (z .cells) (z .crews) s w + 2 ≤ s .high w) × (p ≡ chooser .gives k (commitLowerBound (z .cells) (z .crews) s w) (s .high w))
 AcceptsWith chooser z k s w (abandons p) = AtWork z s w × (p ≡ chooser .gives k (s .low w) (s .high w))

@@ -73,3 +73,4 @@ pub record ReadSkewIsNotExplained : Type 0 where
   pub two-before-one : Precedes (byJobs readSkew) 2 1
   pub not-explained : (row : List ℕ) → In 2 row → SeriallyExplained firstValues (byJobs readSkew) row → ⊥
   pub no-order : (row : List ℕ) → SerializationOrder (byJobs readSkew) row → ⊥
+  pub no-script : (numbers : List ℕ) → AcceptedWith scriptChooser small firstValues (λ w c. 0) numbers (callsOf readSkew) → ⊥

@@ -8,9 +8,9 @@ use Rattle.history.specs.Values.{ReadsCurrent}
 use Rattle.history.specs.Precedence.{In, Once, Respects, SerializationOrder}
 use Rattle.history.specs.SerialExecution.{SeriallyExplained, Opaque}
 use Rattle.history.specs.WellMade.{WellMade, Calls, callsOf, WellMadeList}
-use Rattle.history.specs.Bounds.{Placed, sortKey, Ascending, Bounds, Tracked, BoundsRun, CrewRun}
+use Rattle.history.specs.Bounds.{Placed, sortKey, Ascending, Bounds, Tracked, boundsByJob, CrewRun}
 use Rattle.history.specs.Views.{RegisterView, ViewRun, ViewAgrees}
-use Rattle.history.specs.Acceptance.{AcceptedAt, position, positions, Chooser, KeepsLaw, scriptChooser, reverseOnto, Sizes, AcceptedWith}
+use Rattle.history.specs.Acceptance.{AcceptedAt, position, positions, Chooser, KeepsLaw, scriptChooser, reverseOnto, Sizes, RunWith, AcceptedWith}
 
 ---- Serial execution explains what a register told
 
@@ -40,11 +40,11 @@ PlacesGiveAnOrder V = (first : ℕ → V) (h : History V) (low high : ℕ → �
 
 ---- Opacity
 
--- bounds that every call moves as it should agree with the four rules
+-- bounds of crews that every call moves as it should agree, taken by job, with the four rules
 abbrev pub MovedBoundsAgree : Type 0 → Type 0
-MovedBoundsAgree V = (top : ℕ) (h : History V) (b : Bounds) → 2 ≤ top → WellFormed h → BoundsRun top h b → Tracked h b
+MovedBoundsAgree V = (top : ℕ) (run : History V) (b : Bounds) → 2 ≤ top → WellMade run → CrewRun top run b → Tracked (byJobs run) (boundsByJob top run b)
 
--- so a register whose every call moves the bounds of crews as it should, and whose every read is current, is opaque
+-- so a run whose every call moves the bounds as it should, and whose every read is current, is opaque
 abbrev pub BoundsAreOpaque : Type 0 → Type 0
 BoundsAreOpaque V = (first : ℕ → V) (top : ℕ) (run : History V) (b : Bounds) → 2 ≤ top → WellMade run → ReadsCurrent first (byJobs run) → CrewRun top run b → Opaque first run
 
@@ -85,7 +85,14 @@ abbrev pub PositionsMakeAScript : Type 0 → Type 0
 PositionsMakeAScript V = (first : ℕ → V) (own : ℕ → ℕ → V) (z : Sizes) (calls : Calls V) → z .entries + 2 ≤ z .top → WellMadeList (z .cells) (z .crews) (z .entries) calls →
     (row : List ℕ) → SerializationOrder (byJobs calls) row → AcceptedWith scriptChooser z first own (reverseOnto (positions (position row) calls) []) calls
 
--- with any chooser that keeps the law, a list whose every call is accepted has a serialization order
+---- With any chooser that keeps the law
+
+-- a run with a chooser is a run at the places that the chooser gave, so that all that is said of views holds of it
+abbrev pub ChosenRunsAreViewRuns : Type 0 → Type 0 → Type 0
+ChosenRunsAreViewRuns V C = (chooser : Chooser C) (k₀ : C) (first : ℕ → V) (own : ℕ → ℕ → V) (z : Sizes) (run : History V) (s : RegisterView V) (k : C) → KeepsLaw chooser →
+    RunWith chooser z first own k₀ run s k → ViewRun (z .top) (z .cells) first own run s
+
+-- so a list whose every call is accepted has a serialization order
 abbrev pub ChosenPlacesGiveAnOrder : Type 0 → Type 0 → Type 0
 ChosenPlacesGiveAnOrder V C = (chooser : Chooser C) (k₀ : C) (first : ℕ → V) (own : ℕ → ℕ → V) (z : Sizes) (calls : Calls V) → KeepsLaw chooser → 2 ≤ z .top →
     AcceptedWith chooser z first own k₀ calls → (row : List ℕ) × SerializationOrder (byJobs calls) row

@@ -52,12 +52,19 @@ abbrev pub conflicts : {V : Type 0} → RegisterView V → ℕ → ℕ → ℕ �
 conflicts s w u zero = false
 conflicts s w u (suc c) = (s .hasRead u (suc c) && s .hasWritten w (suc c)) || conflicts s w u c
 
+-- a first-hand read of cell c raises the low bound of crew w's job to the places of the jobs that committed the cell, and there must be room above
+abbrev pub lowAfterRead : {V : Type 0} → RegisterView V → ℕ → ℕ → ℕ
+lowAfterRead s w c = cond (s .hasWritten w c) (s .low w) (max (s .low w) (s .written c))
+
+abbrev pub RoomToRead : {V : Type 0} → RegisterView V → ℕ → ℕ → Type 0
+RoomToRead s w c = s .hasWritten w c ≡ false → max (s .low w) (s .written c) + 2 ≤ s .high w
+
 -- When a call of crew w is accepted, with the answer that it has, in a register of n cells: an opening, where a place is left above the highest;
 -- a first-hand read, where the job still has room above the cell's last commit; an ending, at a place between the job's bounds,
 -- and a commit only above the places of its cells, with room below its place for each open job that has read one of them
 abbrev pub Accepts : {V : Type 0} → ℕ → ℕ → RegisterView V → ℕ → Operation V V ℕ → Type 0
 Accepts top n s w opens = (s .job w ≡ 0) × (s .highest + 2 ≤ top)
-Accepts top n s w (reads c v) = (1 ≤ s .job w) × (v ≡ visible s w c) × (s .hasWritten w c ≡ false → max (s .low w) (s .written c) + 2 ≤ s .high w)
+Accepts top n s w (reads c v) = (1 ≤ s .job w) × (v ≡ visible s w c) × RoomToRead s w c
 Accepts top n s w (writes c v) = (1 ≤ s .job w) × (1 ≤ c) × (c ≤ n)
 Accepts top n s w (commits p) = (1 ≤ s .job w) × (s .low w < p) × (p < s .high w)
     × ((c : ℕ) → s .hasWritten w c ≡ true → (s .written c < p) × (s .read c < p))
@@ -120,7 +127,7 @@ viewAfter top n s w (reads c v) = record {
   written = s .written;
   read = s .read;
   job = s .job;
-  low = updated (s .low) w (cond (s .hasWritten w c) (s .low w) (max (s .low w) (s .written c)));
+  low = updated (s .low) w (lowAfterRead s w c);
   high = s .high;
   own = s .own;
   hasRead = updated (s .hasRead) w (updated (s .hasRead w) c (cond (s .hasWritten w c) (s .hasRead w c) true));

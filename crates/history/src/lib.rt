@@ -1,8 +1,11 @@
 // Histories of a register's calls, and the theorems about them. The functions return nothing of use: each has a theorem for its contract.
 ghost use Rattle.history.specs.Theorems.{WellMadeRunsAreWellFormed, RespectfulOrdersExplain, SerializationOrdersExplain, AscendingRowsAreOrders, PlacesGiveAnOrder};
 ghost use Rattle.history.specs.Theorems.{MovedBoundsAgree, BoundsAreOpaque, ViewsAgree, ViewsAreOpaque};
-ghost use Rattle.history.specs.Theorems.{AnswersDoNotMatter, ViewsArePermissive, PositionsAreAccepted, ScriptsKeepTheLaw, ScriptsArePermissive, PositionsMakeAScript, ChosenPlacesGiveAnOrder};
+ghost use Rattle.history.specs.Theorems.{AnswersDoNotMatter, ViewsArePermissive, PositionsAreAccepted, ScriptsKeepTheLaw, ScriptsArePermissive, PositionsMakeAScript};
+ghost use Rattle.history.specs.Theorems.{ChosenRunsAreViewRuns, ChosenPlacesGiveAnOrder};
 ghost use Rattle.history.specs.Examples.{CrossedReadsHaveNoOrder, OvertakingHasAnOrder, ReadSkewIsNotExplained};
+
+// What serial execution explains
 
 pub fn well_made_runs_are_well_formed<V>() -> u8
     ensures { λ _. ⌜ WellMadeRunsAreWellFormed V ⌝ }
@@ -34,6 +37,8 @@ pub fn places_give_an_order<V>() -> u8
     0
 }
 
+// Opacity
+
 pub fn moved_bounds_agree<V>() -> u8
     ensures { λ _. ⌜ MovedBoundsAgree V ⌝ }
 {
@@ -57,6 +62,8 @@ pub fn views_are_opaque<V>() -> u8
 {
     0
 }
+
+// Permissiveness
 
 pub fn answers_do_not_matter<V>() -> u8
     ensures { λ _. ⌜ AnswersDoNotMatter V ⌝ }
@@ -94,11 +101,21 @@ pub fn positions_make_a_script<V>() -> u8
     0
 }
 
+// Any chooser that keeps the law
+
+pub fn chosen_runs_are_view_runs<V, C>() -> u8
+    ensures { λ _. ⌜ ChosenRunsAreViewRuns V C ⌝ }
+{
+    0
+}
+
 pub fn chosen_places_give_an_order<V, C>() -> u8
     ensures { λ _. ⌜ ChosenPlacesGiveAnOrder V C ⌝ }
 {
     0
 }
+
+// Three examples
 
 pub fn crossed_reads_have_no_order() -> u8
     ensures { λ _. ⌜ CrossedReadsHaveNoOrder ⌝ }

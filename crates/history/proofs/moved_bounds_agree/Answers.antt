@@ -1,5 +1,5 @@
 use Rattle.history.proofs.moved_bounds_agree.Needs as need
-use Rattle.history.proofs.Opacity.{tracked}
+use Rattle.history.proofs.Opacity.{bounds-agree}
 
 pub returns : need.returns
-returns g c = λ top h b t wf r. tracked top t wf r
+returns g c = bounds-agree
