@@ -49,3 +49,7 @@ length-cleared xs n m w len a b =
     let f : row n w + n ≤ length xs = rw len (row-fits n m w a b) in
     length-append (take (row n w) xs) (replicate n 0 ++ drop (row n w + n) xs)
     ∙ omega (arith, f, length-take-le (row n w) xs (omega (arith, f)), length-append (replicate n 0) (drop (row n w + n) xs), length-replicate {A = ℕ} n 0, length-drop (row n w + n) xs)
+
+pub none-busy : (m : ℕ) → 0 ≡ busy (λ w. 0) m
+none-busy zero = refl
+none-busy (suc m) = omega (arith, none-busy m)

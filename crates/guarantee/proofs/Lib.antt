@@ -1,6 +1,7 @@
 pub mod Started
 pub mod Passing
 pub mod Histories
+pub mod Counting
 pub mod Tied
 pub mod Orders
 pub mod Booked
@@ -8,7 +9,6 @@ pub mod Invariant
 pub mod Opacity
 pub mod RuleFacts
 pub mod Scripts
-pub mod Counting
 pub mod Bounding
 pub mod Accepting
 pub mod Permissiveness

@@ -37,7 +37,6 @@ use Rattle.guarantee.specs.Opacity.{cellValues}
 use Rattle.guarantee.specs.Permissiveness.{AcceptedCallsHaveAnOrder, AllAccepted, EveryListCanBePerformed, EveryRunAccepts, HasSerializationOrder, IsAccepted, IsOrderOf, IsPermissive, RegisterIsPermissive, RunOf, SomeRunAccepts, WellMadeCalls, scriptBy}
 use Rattle.guarantee.specs.RuleFacts.{SoundHead}
 use Rattle.guarantee.proofs.Accepting.{Abreast, performed, sizes-of}
-use Rattle.guarantee.proofs.Counting.{busy}
 use Rattle.guarantee.proofs.Invariant.{keeps-on, start-tie}
 use Rattle.guarantee.proofs.Opacity.{every-run-is-opaque}
 use Rattle.guarantee.proofs.Passing.{outcome-by}
@@ -119,28 +118,16 @@ every-list-can-be-performed V d s f j ke ks = sound-run d s f (first-sound s j) 
 
 ---- From an order to every run
 
-none-busy : (m : ℕ) → 0 ≡ busy (λ w. 0) m
-none-busy zero = refl
-none-busy (suc m) = omega (arith, none-busy m)
-
 module _ {V : Type 0} (d : V) (s : Register V) (j : JustStarted (s .head) (s .tables)) where
-  at-first : (xs : List ℕ) → Abreast d (sizes-of s) (freshView (cellValues d s) (ownOf d s)) xs s (scriptMeaning xs)
-  at-first xs = record {
-    tie = start-tie d s j;
-    fits = j .fits;
-    n-is = refl;
-    m-is = refl;
-    b-is = refl;
-    active-is = fresh s j .active-is ∙ none-busy (s .head .sizes .crews);
-    means = refl;
-  }
+  at-first : (xs : List ℕ) → Abreast d s (freshView (cellValues d s) (ownOf d s)) xs s (scriptMeaning xs)
+  at-first xs = record { tie = start-tie d s j; same-sizes = refl; means = refl }
 
   abbrev Accepted-by : List ℕ → History V → RegisterView V → List ℕ → Type 0
   Accepted-by xs run view ys = RunWith scriptChooser (sizes-of s) (cellValues d s) (ownOf d s) xs run view ys
 
   -- along what the view accepts, every call of the register is accepted
   abreast : (xs : List ℕ) {log : List (Step V)} {r : Register V} {f : Meaning} → Performed d s (scriptMeaning xs) log r f →
-      {run : History V} {view : RegisterView V} {ys : List ℕ} → Alike run (eventsOf (madeBy log)) → Accepted-by xs run view ys → AllAccepted log × Abreast d (sizes-of s) view ys r f
+      {run : History V} {view : RegisterView V} {ys : List ℕ} → Alike run (eventsOf (madeBy log)) → Accepted-by xs run view ys → AllAccepted log × Abreast d s view ys r f
   abreast xs Performed.starts none RunWith.starts = (tt, at-first xs)
   abreast xs (Performed.then {r = r} {f = f} {k = k} {a = a} {r′ = r′} {f′ = f′} g p) (more m al) (RunWith.goes-on {s = view} {k = ys} sv now) =
       let ih = abreast xs g al sv in

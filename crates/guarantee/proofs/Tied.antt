@@ -7,6 +7,7 @@ use Prim.Native.Nat.{ℕ, zero, suc, _+_, _-_, _*_, _^_, _≤_, _<_, min, max}
 use native.Mathlib.Omega.{arith}
 use lib.Dec.{eqb, ltb, leb}
 use lib.ListN.{length, getD, set, take, drop, replicate}
+use Rattle.std.proofs.shelf.Lists.{length-set}
 use Rattle.std.proofs.shelf.Tests.{eqb-true, eqb-false, eq-eqb, ne-eqb, both-ways, ltb-true, ltb-false, or-parts, not-false, and-from}
 use Rattle.std.specs.declared.option.Option.{Option}
 use Rattle.std.specs.declared.option.Option.the-variants.{Some, None}
@@ -18,13 +19,14 @@ use Rattle.terms.specs.declared.records.Standing.the-variants.{Open as IsOpen}
 use Rattle.terms.specs.declared.refusals.Refusal.{Refusal}
 use Rattle.history.specs.Events.{Operation}
 use Rattle.history.specs.Views.{Accepts, RegisterView, conflicts, updated, viewAfter}
-use Rattle.rules.specs.Contents.{closedRecord}
+use Rattle.rules.specs.Contents.{Fits, closedRecord}
 use Rattle.rules.specs.JobCalls.{abandonedAt, commitLow, committedAt, lowered, openOutcome, otherReader, raisedLow, raisedReads, readCell, touches, writeOutcome}
 use Rattle.rules.specs.Limits.{top}
 use Rattle.rules.specs.Registers.{Register, flagOf, hasJob, hasRead, hasWritten, highOf, isOpen, jobNumber, lowOf, ownOf, recordOf}
 use Rattle.rules.specs.Tables.{at, cleared, each, most, put, readFlag, some, spot, withRead, withWritten, writtenFlag}
 use Rattle.rules.specs.declared.calls.Answer.{Answer}
 use Rattle.rules.proofs.Changing.{at-each, at-put, first-read, first-written, getD-cleared, getD-spot, length-each, most-at, written-read, written-written}
+use Rattle.guarantee.proofs.Counting.{busy, busy-put, length-cleared, one-no, one-yes}
 use Rattle.guarantee.proofs.Passing.{Sized, Working}
 
 ---- The tie
@@ -45,6 +47,9 @@ pub record Tie {V : Type 0} (d : V) (r : Register V) (s : RegisterView V) : Type
   pub writes-are : (u c : ℕ) → 1 ≤ u → u ≤ r .head .sizes .crews → 1 ≤ c → c ≤ r .head .sizes .cells → hasWritten r u c ≡ s .hasWritten u c
   pub highest-is : s .highest ≡ r .head .highest
   pub opened-is : s .opened ≡ r .head .ended + r .head .active
+  pub active-is : r .head .active ≡ busy (s .job) (r .head .sizes .crews)
+  pub under-top : (u : ℕ) → s .high u ≤ top
+  pub fits : Fits (r .head .sizes) (r .tables)
 
 -- one of the cells
 some-meets : {V : Type 0} (t : ℕ → Bool) (s : RegisterView V) (w u n : ℕ) → ((c : ℕ) → 1 ≤ c → c ≤ n → t c ≡ (s .hasRead u c && s .hasWritten w c)) → some t n ≡ conflicts s w u n
@@ -90,6 +95,17 @@ put-same f k v e j = go (eqb k j) refl
     go true q = e ∙ ap f (eqb-true k j q)
     go false q = refl
 
+updated-below : (f : ℕ → ℕ) (k v b : ℕ) → v ≤ b → ((u : ℕ) → f u ≤ b) → (u : ℕ) → updated f k v u ≤ b
+updated-below f k v b l h u = go (eqb k u)
+  where
+    go : (t : Bool) → cond t v (f u) ≤ b
+    go true = l
+    go false = h u
+
+lowered-below : (t : Bool) (h p b : ℕ) → h ≤ b → cond t (min h p) h ≤ b
+lowered-below true h p b l = omega arith
+lowered-below false h p b l = l
+
 cond-same : {A : Type 0} (b c : Bool) (x x′ y y′ : A) → b ≡ c → x ≡ x′ → y ≡ y′ → cond b x y ≡ cond c x′ y′
 cond-same b c x x′ y y′ p q e = rw (p, q, e)
 
@@ -117,11 +133,14 @@ module _ {V : Type 0} (d : V) (r : Register V) (s : RegisterView V) (tie : Tie d
 
   ---- open
 
-  pub accepts-open : hasJob r w ≡ false → ltb top (r .head .highest + 2) ≡ false → Accepts top (r .head .sizes .cells) s w Operation.opens
-  accepts-open e f = (tied-closed (hasJob r w) (recordOf r w) (s .job w) (s .low w) (s .high w) e (tie .job-is w (z .from-one) (z .to-crews)), omega (arith, tie .highest-is, ltb-false top (r .head .highest + 2) f))
+  no-job : hasJob r w ≡ false → s .job w ≡ 0
+  no-job e = tied-closed (hasJob r w) (recordOf r w) (s .job w) (s .low w) (s .high w) e (tie .job-is w (z .from-one) (z .to-crews))
 
-  pub tie-open : Tie d (openOutcome r w .left) (viewAfter top (r .head .sizes .cells) s w Operation.opens)
-  tie-open = record {
+  pub accepts-open : hasJob r w ≡ false → ltb top (r .head .highest + 2) ≡ false → Accepts top (r .head .sizes .cells) s w Operation.opens
+  accepts-open e f = (no-job e, omega (arith, tie .highest-is, ltb-false top (r .head .highest + 2) f))
+
+  pub tie-open : hasJob r w ≡ false → Tie d (openOutcome r w .left) (viewAfter top (r .head .sizes .cells) s w Operation.opens)
+  tie-open e = record {
     value-is = tie .value-is;
     written-is = tie .written-is;
     read-is = tie .read-is;
@@ -133,6 +152,9 @@ module _ {V : Type 0} (d : V) (r : Register V) (s : RegisterView V) (tie : Tie d
     writes-are = tie .writes-are;
     highest-is = tie .highest-is;
     opened-is = omega (arith, tie .opened-is);
+    active-is = omega (arith, busy-put (s .job) w (suc (s .opened)) (r .head .sizes .crews) (z .from-one) (z .to-crews), one-no (s .job w) (no-job e), one-yes (suc (s .opened)) (omega arith), tie .active-is);
+    under-top = updated-below (s .high) w top top (omega arith) (tie .under-top);
+    fits = record { values = z .fits .values; written = z .fits .written; read = z .fits .read; jobs = length-set (r .tables .jobs) (w - 1) _ ∙ z .fits .jobs; own = z .fits .own; flags = z .fits .flags; book = z .fits .book };
   }
 
   ---- one spot of a table of crews and cells changed
@@ -167,6 +189,9 @@ module _ {V : Type 0} (d : V) (r : Register V) (s : RegisterView V) (tie : Tie d
     writes-are = tie .writes-are;
     highest-is = tie .highest-is;
     opened-is = tie .opened-is;
+    active-is = tie .active-is;
+    under-top = tie .under-top;
+    fits = z .fits;
   }
     where
       f : s .hasWritten w c ≡ true
@@ -196,6 +221,9 @@ module _ {V : Type 0} (d : V) (r : Register V) (s : RegisterView V) (tie : Tie d
         ∙ ap (λ (g : ℕ → Bool). g i) (put-same (s .hasWritten) w (updated (s .hasWritten w) c (s .hasWritten w c)) (fun-ext (put-same (s .hasWritten w) c (s .hasWritten w c) refl)) u);
     highest-is = tie .highest-is;
     opened-is = tie .opened-is;
+    active-is = tie .active-is;
+    under-top = tie .under-top;
+    fits = record { values = z .fits .values; written = z .fits .written; read = z .fits .read; jobs = length-set (r .tables .jobs) (w - 1) _ ∙ z .fits .jobs; own = z .fits .own; flags = length-set (r .tables .flags) _ _ ∙ z .fits .flags; book = z .fits .book };
   }
     where
       K : JobRecord
@@ -231,9 +259,15 @@ module _ {V : Type 0} (d : V) (r : Register V) (s : RegisterView V) (tie : Tie d
     writes-are = spot-put (r .tables .flags) 0 c (withWritten (flagOf r w c)) writtenFlag (s .hasWritten) true (z .fits .flags) a b (written-written (flagOf r w c)) (tie .writes-are);
     highest-is = tie .highest-is;
     opened-is = tie .opened-is;
+    active-is = tie .active-is;
+    under-top = tie .under-top;
+    fits = record { values = z .fits .values; written = z .fits .written; read = z .fits .read; jobs = z .fits .jobs; own = length-set (r .tables .own) _ _ ∙ z .fits .own; flags = length-set (r .tables .flags) _ _ ∙ z .fits .flags; book = z .fits .book };
   }
 
   ---- endings
+
+  ended-active : 1 ≤ s .job w → r .head .active - 1 ≡ busy (updated (s .job) w 0) (r .head .sizes .crews)
+  ended-active j = omega (arith, busy-put (s .job) w 0 (r .head .sizes .crews) (z .from-one) (z .to-crews), one-yes (s .job w) j, one-no 0 refl, tie .active-is)
 
   row-put : (g : ℕ → Bool) (t : ℕ → ℕ → Bool) → g 0 ≡ false → ((u k : ℕ) → 1 ≤ u → u ≤ r .head .sizes .crews → 1 ≤ k → k ≤ r .head .sizes .cells → g (flagOf r u k) ≡ t u k) →
       (u k : ℕ) → 1 ≤ u → u ≤ r .head .sizes .crews → 1 ≤ k → k ≤ r .head .sizes .cells → g (getD (cleared (r .tables .flags) (r .head .sizes .cells) w) (spot (r .head .sizes .cells) u k) 0) ≡ updated t w (λ c. false) u k
@@ -262,6 +296,17 @@ module _ {V : Type 0} (d : V) (r : Register V) (s : RegisterView V) (tie : Tie d
     writes-are = row-put writtenFlag (s .hasWritten) refl (tie .writes-are);
     highest-is = omega (arith, tie .highest-is);
     opened-is = omega (arith, tie .opened-is, k .counted);
+    active-is = ended-active (of-open (k .has) .1);
+    under-top = updated-below (s .high) w 0 top (omega arith) (tie .under-top);
+    fits = record {
+      values = z .fits .values;
+      written = z .fits .written;
+      read = length-each _ 1 (r .tables .read) ∙ z .fits .read;
+      jobs = length-set (r .tables .jobs) (w - 1) _ ∙ z .fits .jobs;
+      own = z .fits .own;
+      flags = length-cleared (r .tables .flags) (r .head .sizes .cells) (r .head .sizes .crews) w (z .fits .flags) (z .from-one) (z .to-crews) ∙ z .fits .flags;
+      book = z .fits .book;
+    };
   }
 
   pub touched : (u : ℕ) → 1 ≤ u → u ≤ r .head .sizes .crews → touches r w u ≡ conflicts s w u (r .head .sizes .cells)
@@ -310,6 +355,17 @@ module _ {V : Type 0} (d : V) (r : Register V) (s : RegisterView V) (tie : Tie d
     writes-are = row-put writtenFlag (s .hasWritten) refl (tie .writes-are);
     highest-is = omega (arith, tie .highest-is);
     opened-is = omega (arith, tie .opened-is, k .counted);
+    active-is = ended-active (of-open (k .has) .1);
+    under-top = updated-below H w 0 top (omega arith) (λ u. lowered-below (conflicts s w u (r .head .sizes .cells)) (s .high u) p top (tie .under-top u));
+    fits = record {
+      values = length-each _ 1 (r .tables .values) ∙ z .fits .values;
+      written = length-each _ 1 (r .tables .written) ∙ z .fits .written;
+      read = length-each _ 1 (r .tables .read) ∙ z .fits .read;
+      jobs = length-set _ (w - 1) _ ∙ (length-each _ 1 (r .tables .jobs) ∙ z .fits .jobs);
+      own = z .fits .own;
+      flags = length-cleared (r .tables .flags) (r .head .sizes .cells) (r .head .sizes .crews) w (z .fits .flags) (z .from-one) (z .to-crews) ∙ z .fits .flags;
+      book = z .fits .book;
+    };
   }
     where
       wr : (c : ℕ) → 1 ≤ c → c ≤ r .head .sizes .cells → hasWritten r w c ≡ s .hasWritten w c
