@@ -42,7 +42,8 @@ use Rattle.guarantee.specs.Permissiveness.{IsAccepted}
 use Rattle.guarantee.proofs.Bounding.{commit-low-floor}
 use Rattle.guarantee.proofs.Counting.{busy-at}
 use Rattle.guarantee.proofs.Invariant.{tie-book}
-use Rattle.guarantee.proofs.Passing.{None-of, Sized, Working}
+use Rattle.guarantee.proofs.Opacity.{b}
+use Rattle.guarantee.proofs.Passing.{None-of, Sized, Working, not-damaged}
 use Rattle.guarantee.proofs.Scripts.{gives-same, next-same}
 use Rattle.guarantee.proofs.Tied.{Tie, Tied, of-open, tie-abandon, tie-cell, tie-commit, tie-open, tie-own, tie-write, tied-by-job}
 
@@ -126,16 +127,12 @@ module _ {V : Type 0} (d : V) (q : Register V) (view : RegisterView V) (xs : Lis
       let o = of-open d r view (ab .tie) w s h in
       record { has = h; room = omega (arith, o .2, o .3, k .room); under-top = omega (arith, o .3, k .below-top); counted = rw (ab .tie .active-is) (busy-at (view .job) w (r .head .sizes .crews) (s .from-one) (s .to-crews) (k .a-job)) }
 
-  undamaged : (w : ℕ) → Working r w → damaged r w ≡ false
-  undamaged w k = or-from (ltb (highOf r w) (lowOf r w + 2)) (ltb top (highOf r w) || eqb (r .head .active) 0) (le-ltb (highOf r w) (lowOf r w + 2) (k .room))
-      (or-from (ltb top (highOf r w)) (eqb (r .head .active) 0) (le-ltb top (highOf r w) (k .under-top)) (ne-eqb (r .head .active) 0 (λ e. omega (arith, k .counted))))
-
   -- a call of an open job passes the tests
   passes-work : (k : Call V) → isOpening k ≡ false → wrongCell (r .head .sizes .cells) k ≡ false → AtWork z view (crewOf k) → outcome d (f []) r k ≡ accepted d (f []) r k
   passes-work k o c a =
       let s = sized (crewOf k) (a .a-crew) in
       let wk = working (crewOf k) a in
-      passes k (within (r .head .sizes .crews) (crewOf k) (s .from-one) (s .to-crews)) c (rw o refl) (rw (o, wk .has) refl) (rw (o, undamaged (crewOf k) wk) refl) (rw o refl) (rw o refl)
+      passes k (within (r .head .sizes .crews) (crewOf k) (s .from-one) (s .to-crews)) c (rw o refl) (rw (o, wk .has) refl) (rw (o, not-damaged r (crewOf k) wk) refl) (rw o refl) (rw o refl)
 
   tied : (left : Register V) (w : ℕ) (e : Operation V V ℕ) → Tie d left (viewAfter top (r .head .sizes .cells) view w e) → Tie d left (viewAfter top (z .cells) view w e)
   tied left w e t = subst (λ (n : ℕ). Tie d left (viewAfter top n view w e)) (n-is) t

@@ -11,6 +11,7 @@ use Rattle.history.specs.Views.{RegisterView, conflicts}
 use Rattle.rules.specs.JobCalls.{commitLow, otherReader}
 use Rattle.rules.specs.Registers.{Register, hasJob, hasWritten, lowOf, recordOf}
 use Rattle.rules.specs.Tables.{at, most}
+use Rattle.guarantee.proofs.Opacity.{b}
 use Rattle.guarantee.proofs.Passing.{Sized, Working}
 use Rattle.guarantee.proofs.Tied.{Tie, Tied, of-open, touched}
 

@@ -8,6 +8,7 @@ pub mod Booked
 pub mod Invariant
 pub mod Opacity
 pub mod RuleFacts
+pub mod Soundness
 pub mod Scripts
 pub mod Bounding
 pub mod Accepting

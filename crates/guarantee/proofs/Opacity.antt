@@ -15,7 +15,7 @@ use Rattle.std.specs.declared.result.Result.the-variants.{Ok, Err}
 use Rattle.std.proofs.shelf.Tests.{eqb-true, eqb-false, both-ways}
 use Rattle.terms.specs.declared.records.Entry.{Entry}
 use Rattle.choosers.specs.Meaning.{KeepsLaw, Meaning}
-use Rattle.history.specs.Bounds.{Bounds, Placed, boundsByJob, sortKey, sortKeyAt}
+use Rattle.history.specs.Bounds.{Bounds, Placed, Tracked, boundsByJob, sortKey, sortKeyAt}
 use Rattle.history.specs.Events.{Event, History, Operation, byJobs, isSome, openings}
 use Rattle.history.specs.Events.Event.{by}
 use Rattle.history.specs.Events.Operation.{abandons, commits, opens, reads, writes}
@@ -211,11 +211,14 @@ module _ {V : Type 0} (d : V) (s : Register V) (run : History V) (r : Register V
   tr : ReadsCurrent (cellValues d s) (byJobs run)
   tr = run-facts top (r .head .sizes .cells) (cellValues d s) (ownOf d s) (inv .went) .reads-current
 
-  abbrev b : Bounds
+  abbrev pub b : Bounds
   b = boundsByJob top run (boundsOf (inv .view))
 
+  pub tracking : Tracked (byJobs run) b
+  tracking = tracked top (lit≤ tt) pr (bounds-run top (crew-run top (r .head .sizes .cells) (cellValues d s) (ownOf d s) (inv .went)) (lit≤ tt) wm)
+
   pl : Placed (byJobs run) (b .low) (b .high)
-  pl = tracked top (lit≤ tt) pr (bounds-run top (crew-run top (r .head .sizes .cells) (cellValues d s) (ownOf d s) (inv .went)) (lit≤ tt) wm) .placed
+  pl = tracking .placed
 
   abbrev k : ℕ → ℕ
   k = sortKey (byJobs run) (b .low)
@@ -325,7 +328,7 @@ order-explains d s log r f inv = (
   },
 )
 
-invariant : {V : Type 0} (d : V) (s : Register V) (f₀ : Meaning) → JustStarted (s .head) (s .tables) → KeepsLaw f₀ →
+pub invariant : {V : Type 0} (d : V) (s : Register V) (f₀ : Meaning) → JustStarted (s .head) (s .tables) → KeepsLaw f₀ →
     {log : List (Step V)} {r : Register V} {f : Meaning} → Run d s f₀ log r f → Inv d s (historyOf log) r f × Numbered log
 invariant d s f₀ j k Run.starts = (at-start d s f₀ j k, tt)
 invariant d s f₀ j k (Run.then {log = log} {r = r} {f = f} {k = call} {a = a} {r′ = r′} {f′ = f′} rn p) =

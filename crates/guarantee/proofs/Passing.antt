@@ -6,7 +6,7 @@ use Prim.Native.Nat.{ℕ, _+_, _*_, _≤_, _<_}
 use native.Mathlib.Omega.{arith}
 use lib.Dec.{eqb, ltb, leb}
 use lib.ListN.{length}
-use Rattle.std.proofs.shelf.Tests.{eqb-true, eqb-false, ltb-false, or-parts, not-false, cond-both}
+use Rattle.std.proofs.shelf.Tests.{or-from, le-ltb, ne-eqb, eqb-true, eqb-false, ltb-false, or-parts, not-false, cond-both}
 use Rattle.std.specs.declared.option.Option.{Option}
 use Rattle.std.specs.declared.option.Option.the-variants.{Some, None}
 use Rattle.terms.specs.declared.numbers.CrewNumber.{CrewNumber}
@@ -141,3 +141,7 @@ working r k e ns =
     let a : not (hasJob r (crewOf k)) ≡ false = rw e at (ts .0) in
     let b : damaged r (crewOf k) ≡ false = rw e at (ts .1 .0) in
     undamaged r (crewOf k) a b
+
+pub not-damaged : {V : Type 0} (r : Register V) (w : ℕ) → Working r w → damaged r w ≡ false
+not-damaged r w k = or-from (ltb (highOf r w) (lowOf r w + 2)) (ltb top (highOf r w) || eqb (r .head .active) 0) (le-ltb (highOf r w) (lowOf r w + 2) (k .room))
+    (or-from (ltb top (highOf r w)) (eqb (r .head .active) 0) (le-ltb top (highOf r w) (k .under-top)) (ne-eqb (r .head .active) 0 (λ e. omega (arith, k .counted))))

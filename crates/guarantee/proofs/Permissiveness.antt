@@ -41,7 +41,7 @@ use Rattle.guarantee.proofs.Invariant.{keeps-on, start-tie}
 use Rattle.guarantee.proofs.Opacity.{every-run-is-opaque}
 use Rattle.guarantee.proofs.Passing.{outcome-by}
 use Rattle.guarantee.proofs.RuleFacts.{every-call-can-be-performed}
-use Rattle.guarantee.proofs.Started.{fresh}
+use Rattle.guarantee.proofs.Soundness.{first-sound}
 
 ---- From a run to an order: each call that was accepted is a operation of its kind
 
@@ -106,12 +106,6 @@ one-more {V} d s f₀ k ks g =
 sound-run : {V : Type 0} (d : V) (s : Register V) (f₀ : Meaning) → SoundHead (s .head) → KeepsLaw f₀ → (ks : List (Call V)) → Sound-run d s f₀ ks
 sound-run d s f₀ so ke [] = record { run = record { log = []; register = s; meaning = f₀; performed = Performed.starts; whole = refl }; sound = so; keeps = ke }
 sound-run d s f₀ so ke (k ∷ ks) = one-more d s f₀ k ks (sound-run d s f₀ so ke ks)
-
-first-sound : {V : Type 0} (s : Register V) → JustStarted (s .head) (s .tables) → SoundHead (s .head)
-first-sound s j =
-    let h = fresh s j in
-    let t : 1 ≤ top = lit≤ tt in
-    record { under-top = omega (arith, h .highest-is); in-book = omega (arith, h .ended-is, h .active-is) }
 
 pub every-list-can-be-performed : (V : Type 0) → EveryListCanBePerformed V
 every-list-can-be-performed V d s f j ke ks = sound-run d s f (first-sound s j) ke ks .run

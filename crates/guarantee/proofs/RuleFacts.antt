@@ -32,6 +32,7 @@ use Rattle.rules.specs.declared.calls.Call.the-variants.{Abandon, Commit, Open,
 use Rattle.rules.proofs.Changing.{inside, most-at, most-least, spot-in}
 use Rattle.guarantee.specs.RuleFacts.{Bounds, CommitBoundIsLargest, EveryCallCanBePerformed, NoOutcomeDependsOnDefault, ReadsWritten, SoundHead}
 use Rattle.guarantee.proofs.Invariant.{performed}
+use Rattle.guarantee.proofs.Opacity.{b}
 use Rattle.guarantee.proofs.Passing.{None-of, Sized, Working, cell-passes, free, outcome-by, same-outcome, sized, working}
 
 each-same : {A : Type 0} (f g : ℕ → A → A) (k : ℕ) (xs : List A) → ((c : ℕ) (x : A) → k ≤ c → c < k + length xs → f c x ≡ g c x) → eachFrom k f xs ≡ eachFrom k g xs

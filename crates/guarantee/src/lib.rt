@@ -2,6 +2,7 @@
 ghost use Rattle.guarantee.specs.RuleFacts.{NoOutcomeDependsOnDefault, EveryCallCanBePerformed, CommitBoundIsLargest};
 ghost use Rattle.guarantee.specs.Histories.{HistoriesAreTrue};
 ghost use Rattle.guarantee.specs.Opacity.{EveryRunIsOpaque, EveryMomentIsOpaque};
+ghost use Rattle.guarantee.specs.Soundness.{EveryRunIsSound};
 ghost use Rattle.guarantee.specs.Permissiveness.{RegisterIsPermissive, AcceptedCallsHaveAnOrder, EveryListCanBePerformed};
 
 // What stands in the rules for a value that a table is too short for is never seen.
@@ -42,6 +43,13 @@ pub fn every_run_is_opaque<V>() -> u8
 // And so at every moment until then.
 pub fn every_moment_is_opaque<V>() -> u8
     ensures { λ _. ⌜ EveryMomentIsOpaque V ⌝ }
+{
+    0
+}
+
+// No call ever damages a register that was just started: its tables fit, its head counts its jobs, and no call is answered that a record is damaged.
+pub fn every_run_is_sound<V>() -> u8
+    ensures { λ _. ⌜ EveryRunIsSound V ⌝ }
 {
     0
 }
