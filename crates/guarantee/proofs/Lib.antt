@@ -13,3 +13,4 @@ pub mod Scripts
 pub mod Bounding
 pub mod Accepting
 pub mod Permissiveness
+pub mod Examples

@@ -137,18 +137,18 @@ module _ {V : Type 0} (d : V) (s : Register V) (j : JustStarted (s .head) (s .ta
   book-under-top : s .head .sizes .entries + 2 ≤ top
   book-under-top = let t : mostEntries + 2 ≤ top = lit≤ tt in omega (arith, j .sizes-in-range .entries-fit)
 
+  -- where every run accepts every call, one does
+  pub some-from-every : (ks : List (Call V)) (f : Meaning) → KeepsLaw f → EveryRunAccepts d s f ks → SomeRunAccepts d s f ks
+  some-from-every ks f ke every =
+      let g = every-list-can-be-performed V d s f j ke ks in
+      (g, every (g .log) (g .register) (g .meaning) (g .performed) (subst (λ (x : List (Call V)). Extends x (madeBy (g .log))) (g .whole) here))
+
   module _ (ks : List (Call V)) (well : WellMadeCalls (s .head .sizes) ks) where
     by-positions : (order : List ℕ) → IsOrderOf ks order → EveryRunAccepts d s (scriptMeaning (scriptBy order ks)) ks
     by-positions order l log r f g since =
         let a = positions-script (sizes-of s) (cellValues d s) (ownOf d s) (eventsOf ks) book-under-top well order l in
         let o = older (scriptBy order ks) since (subst (λ (x : Calls V). Alike (a .run) x) (a .same-calls) (calls-alike (a .run))) (a .run-with) in
         abreast (scriptBy order ks) g (o .3) (o .4) .0
-
-    -- where every run accepts every call, one does
-    some-from-every : (f : Meaning) → KeepsLaw f → EveryRunAccepts d s f ks → SomeRunAccepts d s f ks
-    some-from-every f ke every =
-        let g = every-list-can-be-performed V d s f j ke ks in
-        (g, every (g .log) (g .register) (g .meaning) (g .performed) (subst (λ (x : List (Call V)). Extends x (madeBy (g .log))) (g .whole) here))
 
     order-from-some : (f : Meaning) → KeepsLaw f → SomeRunAccepts d s f ks → HasSerializationOrder ks
     order-from-some f ke (g, ok) = subst HasSerializationOrder (g .whole) (accepted-calls-have-order V d s f j ke (g .log) (g .register) (g .meaning) (performed-run d s f (g .performed)) ok)
@@ -159,12 +159,12 @@ module _ {V : Type 0} (d : V) (s : Register V) (j : JustStarted (s .head) (s .ta
     is-permissive : IsPermissive d s ks
     is-permissive = record {
       some-run = (
-        (λ l. let m = every-from-order l in (m .0, some-from-every (scriptMeaning (m .0)) (script-lawful (m .0)) (m .1))),
+        (λ l. let m = every-from-order l in (m .0, some-from-every ks (scriptMeaning (m .0)) (script-lawful (m .0)) (m .1))),
         (λ c. order-from-some (scriptMeaning (c .0)) (script-lawful (c .0)) (c .1)),
       );
       every-run = (
         every-from-order,
-        (λ c. order-from-some (scriptMeaning (c .0)) (script-lawful (c .0)) (some-from-every (scriptMeaning (c .0)) (script-lawful (c .0)) (c .1))),
+        (λ c. order-from-some (scriptMeaning (c .0)) (script-lawful (c .0)) (some-from-every ks (scriptMeaning (c .0)) (script-lawful (c .0)) (c .1))),
       );
       by-position = by-positions;
       with-any-chooser = order-from-some;

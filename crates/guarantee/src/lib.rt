@@ -4,6 +4,7 @@ ghost use Rattle.guarantee.specs.Histories.{HistoriesAreTrue};
 ghost use Rattle.guarantee.specs.Opacity.{EveryRunIsOpaque, EveryMomentIsOpaque};
 ghost use Rattle.guarantee.specs.Soundness.{EveryRunIsSound};
 ghost use Rattle.guarantee.specs.Permissiveness.{RegisterIsPermissive, AcceptedCallsHaveAnOrder, EveryListCanBePerformed};
+ghost use Rattle.guarantee.specs.Examples.{ExamplesStand};
 
 // What stands in the rules for a value that a table is too short for is never seen.
 pub fn no_outcome_depends_on_the_default<V>() -> u8
@@ -71,6 +72,13 @@ pub fn accepted_calls_have_an_order<V>() -> u8
 // Whatever the list of calls and the chooser, the whole list can be performed on a register just started.
 pub fn every_list_can_be_performed<V>() -> u8
     ensures { λ _. ⌜ EveryListCanBePerformed V ⌝ }
+{
+    0
+}
+
+// Of two small lists of calls on a register just started, one is never accepted whole, and the other is with a script.
+pub fn examples_stand() -> u8
+    ensures { λ _. ⌜ ExamplesStand ⌝ }
 {
     0
 }
