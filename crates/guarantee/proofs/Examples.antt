@@ -1,20 +1,17 @@
 -- The two lists of specs/Examples.
-use mathlib.Core.Path.{_≡_, refl, subst}
-use mathlib.Core.List.{List, [], _∷_}
+use mathlib.Core.Path.{refl}
+use mathlib.Core.List.{[], _∷_}
 use Prim.Native.Nat.{ℕ, _≤_}
 use lib.Dec.{lit≤}
 use Rattle.choosers.specs.Lawful.{script-lawful}
 use Rattle.choosers.specs.Script.{scriptMeaning}
-use Rattle.history.specs.Precedence.Extends.{here}
 use Rattle.history.proofs.Alike.{answers-aside}
 use Rattle.history.proofs.Examples.{crossed-reads, overtaking-has-order}
 use Rattle.history.specs.Examples as H
 use Rattle.rules.specs.Making.{JustStarted}
-use Rattle.rules.specs.declared.calls.Call.{Call}
-use Rattle.guarantee.specs.Histories.{madeBy}
-use Rattle.guarantee.specs.Permissiveness.{WellMadeCalls, IsOrderOf, EveryRunAccepts, SomeRunAccepts}
+use Rattle.guarantee.specs.Permissiveness.{WellMadeCalls, IsOrderOf, EveryRunAccepts}
 use Rattle.guarantee.specs.Examples.{smallRegister, smallSizes, overtaking, ExamplesStand}
-use Rattle.guarantee.proofs.Permissiveness.{register-is-permissive, every-list-can-be-performed, some-from-every}
+use Rattle.guarantee.proofs.Permissiveness.{register-is-permissive, some-from-every}
 
 started : JustStarted (smallRegister .head) (smallRegister .tables)
 started = record {

@@ -1,12 +1,11 @@
 -- What holds at every moment of a run: the register is tied to a view that runs by the accepted calls, and its day book names the ended jobs.
 use mathlib.Core.Path.{_≡_, refl, sym, ap, ap₂, subst, _∙_}
-use mathlib.Core.List.{List, [], _∷_, _++_}
-use mathlib.Core.Bool.{Bool, true, false, cond, not, _&&_, _||_}
-use mathlib.Core.Logic.{_⊎_, inl, inr}
-use Prim.Native.Nat.{ℕ, zero, suc, _+_, _-_, _*_, _^_, _≤_, _<_, min, max}
+use mathlib.Core.List.{List, [], _∷_}
+use mathlib.Core.Bool.{false}
+use Prim.Native.Nat.{ℕ, _+_, _-_, _*_, _≤_}
 use native.Mathlib.Omega.{arith}
-use lib.Dec.{eqb, ltb, leb}
-use lib.ListN.{length, getD, set, take, drop, replicate}
+use lib.Dec.{ltb}
+use lib.ListN.{length, getD, take}
 use Rattle.std.proofs.shelf.Lists.{getD-replicate}
 use Rattle.std.proofs.shelf.Tests.{both-ways, ltb-false, cond-both}
 use Rattle.std.specs.declared.option.Option.{Option}

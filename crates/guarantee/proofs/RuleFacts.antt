@@ -1,16 +1,15 @@
 -- Facts about the rules over any tables.
-use mathlib.Core.Path.{_≡_, refl, sym, ap, ap₂, subst, _∙_}
+use mathlib.Core.Path.{_≡_, refl, sym, ap, ap₂, _∙_}
 use mathlib.Core.List.{List, [], _∷_, _++_}
 use mathlib.Core.Bool.{Bool, true, false, cond, not, _&&_, _||_}
 use mathlib.Core.Logic.{_⊎_, inl, inr}
-use Prim.Native.Nat.{ℕ, zero, suc, _+_, _-_, _*_, _^_, _≤_, _<_, min, max}
+use Prim.Native.Nat.{ℕ, zero, suc, _+_, _-_, _≤_, _<_, max}
 use native.Mathlib.Omega.{arith}
 use lib.Dec.{eqb, ltb, leb}
-use lib.ListN.{length, getD, take, drop}
-use Rattle.std.proofs.shelf.Lists.{getD-default, take-at, drop-at, length-append, length-take-le, length-drop, append-assoc}
-use Rattle.std.proofs.shelf.Tests.{eqb-true, eqb-false, ne-eqb, both-ways, ltb-false, leb-true, leb-false, cond-both, and-parts, and-from, or-left, or-right, or-cases, not-false, not-true}
-use Rattle.std.specs.declared.option.Option.{Option}
-use Rattle.std.specs.declared.option.Option.the-variants.{Some, None}
+use lib.ListN.{length, take, drop}
+use Rattle.std.proofs.shelf.Lists.{getD-default, take-at, drop-at, length-append, length-take-le, length-drop}
+use Rattle.std.proofs.shelf.Tests.{eqb-true, eqb-false, ne-eqb, both-ways, ltb-false, leb-true, leb-false, cond-both, and-parts, and-from, or-left, or-right, or-cases, not-true}
+use Rattle.std.specs.declared.option.Option.the-variants.{None}
 use Rattle.std.specs.declared.result.Result.{Result}
 use Rattle.std.specs.declared.result.Result.the-variants.{Ok, Err}
 use Rattle.terms.specs.declared.numbers.Place.{Place}
