@@ -38,7 +38,7 @@ use Rattle.rules.specs.declared.calls.Call.{Call}
 use Rattle.rules.specs.declared.calls.Call.the-variants.{Abandon, Commit, Open, Read, Write}
 use Rattle.guarantee.specs.Histories.{operation}
 use Rattle.guarantee.specs.Permissiveness.{IsAccepted}
-use Rattle.guarantee.proofs.Bounding.{commit-low-floor}
+use Rattle.guarantee.proofs.Bounding.{commit-low-bound}
 use Rattle.guarantee.proofs.Counting.{busy-at}
 use Rattle.guarantee.proofs.Invariant.{tie-book}
 use Rattle.guarantee.proofs.Opacity.{b}
@@ -269,7 +269,7 @@ module _ {V : Type 0} (d : V) (q : Register V) (view : RegisterView V) (xs : Lis
       o = of-open d r view (ab .tie) (w .0) (sized (w .0) (sv .0 .a-crew)) (working (w .0) (sv .0) .has)
 
       fl : commitLowerBound (z .cells) (z .crews) view (w .0) ≡ commitLow r (w .0)
-      fl = sym (commit-low-floor d r view (ab .tie) (w .0) (sized (w .0) (sv .0 .a-crew)) (working (w .0) (sv .0)) ∙ ap₂ (λ (n m : ℕ). commitLowerBound n m view (w .0)) (n-is) (m-is))
+      fl = sym (commit-low-bound d r view (ab .tie) (w .0) (sized (w .0) (sv .0 .a-crew)) (working (w .0) (sv .0)) ∙ ap₂ (λ (n m : ℕ). commitLowerBound n m view (w .0)) (n-is) (m-is))
 
       room : ltb (highOf r (w .0)) (commitLow r (w .0) + 2) ≡ false
       room = le-ltb (highOf r (w .0)) (commitLow r (w .0) + 2) (omega (arith, fl, o .3, sv .1))

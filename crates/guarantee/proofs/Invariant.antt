@@ -150,9 +150,9 @@ module _ {V : Type 0} (d : V) (s : Register V) (run : History V) (r : Register V
   number-is : (w : ℕ) → Sized r w → Working r w → jobNumber r w ≡ openJob run w
   number-is w z k = sym (job-tied d r (inv .view) (inv .tie) w z k) ∙ run-facts top (r .head .sizes .cells) (cellValues d s) (ownOf d s) (inv .went) .view-facts .job-is w
 
-  reached-given-up : (k : Call V) (say : Place → Result (Answer V) Refusal) → Sized r (crewOf k) → Working r (crewOf k) →
+  reached-abandon : (k : Call V) (say : Place → Result (Answer V) Refusal) → Sized r (crewOf k) → Working r (crewOf k) →
       ((p : ℕ) → operationOf k (say (record { 0 = p })) ≡ Some (Operation.abandons p)) → ((p j : ℕ) → NumberedSo (say (record { 0 = p })) j) → Reached k (abandonOutcome (f []) r (crewOf k) say)
-  reached-given-up k say z wk operation num bk i = (rw (operation p) (ended-step w (Operation.abandons p) (abandonedAt r w say p .left) (entryOf r w p Abandoned) (lowOf r w, highOf r w) bk ac (number-is w z wk) names refl refl refl i (tie-abandon d r (inv .view) (inv .tie) w z p say wk)), num p (openings run))
+  reached-abandon k say z wk operation num bk i = (rw (operation p) (ended-step w (Operation.abandons p) (abandonedAt r w say p .left) (entryOf r w p Abandoned) (lowOf r w, highOf r w) bk ac (number-is w z wk) names refl refl refl i (tie-abandon d r (inv .view) (inv .tie) w z p say wk)), num p (openings run))
     where
       w : ℕ
       w = crewOf k
@@ -191,7 +191,7 @@ module _ {V : Type 0} (d : V) (s : Register V) (run : History V) (r : Register V
       cond-both (hasWritten r (w .0) (c .0)) _ _ (Reached (Read w c))
       (λ e bk b. (plain-step (w .0) (Operation.reads (c .0) (ownOf d r (w .0) (c .0))) r bk (accepts-own d r (inv .view) (inv .tie) (w .0) z (c .0) wk (i .0) (i .1) e) refl refl refl refl b (tie-own d r (inv .view) (inv .tie) (w .0) z (c .0) (ownOf d r (w .0) (c .0)) (i .0) (i .1) e), tt))
       (λ e. cond-both (ltb (highOf r (w .0)) (raisedLow r (w .0) (c .0) + 2)) _ _ (Reached (Read w c))
-      (λ l. reached-given-up (Read w c) (λ p. Err (Stale p)) z wk (λ p. refl) (λ p j. tt))
+      (λ l. reached-abandon (Read w c) (λ p. Err (Stale p)) z wk (λ p. refl) (λ p j. tt))
       (λ l bk b. (plain-step (w .0) (Operation.reads (c .0) (at (r .tables .values) (c .0) d)) (readCell d r (w .0) (c .0) .left) bk (accepts-cell d r (inv .view) (inv .tie) (w .0) z (c .0) wk (i .0) (i .1) e l) refl refl refl refl b (tie-cell d r (inv .view) (inv .tie) (w .0) z (c .0) (at (r .tables .values) (c .0) d) wk (i .0) (i .1) e), tt)))
     where
       z : Sized r (w .0)
@@ -210,11 +210,11 @@ module _ {V : Type 0} (d : V) (s : Register V) (run : History V) (r : Register V
   reached (Commit w) ns =
       let z = sized r (Commit w) ns in
       let wk = working r (Commit w) refl ns in
-      cond-both (ltb (highOf r (w .0)) (commitLow r (w .0) + 2)) _ _ (Reached (Commit w)) (λ l. reached-given-up (Commit w) (λ p. Err (NoPlace p)) z wk (λ p. refl) (λ p j. tt)) (λ l. reached-commit w z wk l)
+      cond-both (ltb (highOf r (w .0)) (commitLow r (w .0) + 2)) _ _ (Reached (Commit w)) (λ l. reached-abandon (Commit w) (λ p. Err (NoPlace p)) z wk (λ p. refl) (λ p j. tt)) (λ l. reached-commit w z wk l)
   reached (Abandon w) ns =
       let z = sized r (Abandon w) ns in
       let wk = working r (Abandon w) refl ns in
-      reached-given-up (Abandon w) (λ p. Ok (Answer.Ended p)) z wk (λ p. refl) (λ p j. tt)
+      reached-abandon (Abandon w) (λ p. Ok (Answer.Ended p)) z wk (λ p. refl) (λ p j. tt)
 
   reached-outcome : (k : Call V) → Reached k (outcome d (f []) r k)
   reached-outcome k = outcome-by (Reached k) d (f []) r k (reached-refused k) (reached k)

@@ -47,20 +47,20 @@ abbrev Kind : {V : Type 0} → Call V → Option (Operation V V ℕ) → Type 0
 Kind k None = ⊥
 Kind k (Some e) = SameCall e (operation k)
 
-abbrev Kind-if-ok : {V : Type 0} → Call V → Result (Answer V) Refusal → Type 0
-Kind-if-ok k a = IsAccepted a → Kind k (operationOf k a)
+abbrev Kind-if-accepted : {V : Type 0} → Call V → Result (Answer V) Refusal → Type 0
+Kind-if-accepted k a = IsAccepted a → Kind k (operationOf k a)
 
 module _ {V : Type 0} (d : V) where
-  accepted-kind : (f : Meaning) (r : Register V) (k : Call V) → Kind-if-ok k (accepted d (f []) r k .answer)
+  accepted-kind : (f : Meaning) (r : Register V) (k : Call V) → Kind-if-accepted k (accepted d (f []) r k .answer)
   accepted-kind f r (Open w) = λ i. open-open
-  accepted-kind f r (Read w c) = cond-both (hasWritten r (w .0) (c .0)) _ _ (λ (o : Outcome V). Kind-if-ok (Read w c) (o .answer)) (λ e i. read-read)
-      (λ e. cond-both (ltb (highOf r (w .0)) (raisedLow r (w .0) (c .0) + 2)) _ _ (λ (o : Outcome V). Kind-if-ok (Read w c) (o .answer)) (λ l i. absurd i) (λ l i. read-read))
+  accepted-kind f r (Read w c) = cond-both (hasWritten r (w .0) (c .0)) _ _ (λ (o : Outcome V). Kind-if-accepted (Read w c) (o .answer)) (λ e i. read-read)
+      (λ e. cond-both (ltb (highOf r (w .0)) (raisedLow r (w .0) (c .0) + 2)) _ _ (λ (o : Outcome V). Kind-if-accepted (Read w c) (o .answer)) (λ l i. absurd i) (λ l i. read-read))
   accepted-kind f r (Write w c v) = λ i. write-write
-  accepted-kind f r (Commit w) = cond-both (ltb (highOf r (w .0)) (commitLow r (w .0) + 2)) _ _ (λ (o : Outcome V). Kind-if-ok (Commit w) (o .answer)) (λ l i. absurd i) (λ l i. commit-commit)
+  accepted-kind f r (Commit w) = cond-both (ltb (highOf r (w .0)) (commitLow r (w .0) + 2)) _ _ (λ (o : Outcome V). Kind-if-accepted (Commit w) (o .answer)) (λ l i. absurd i) (λ l i. commit-commit)
   accepted-kind f r (Abandon w) = λ i. abandon-abandon
 
-  outcome-kind : (f : Meaning) (r : Register V) (k : Call V) → Kind-if-ok k (outcome d (f []) r k .answer)
-  outcome-kind f r k = outcome-by (λ (o : Outcome V). Kind-if-ok k (o .answer)) d (f []) r k (λ e q i. absurd i) (λ ns. accepted-kind f r k)
+  outcome-kind : (f : Meaning) (r : Register V) (k : Call V) → Kind-if-accepted k (outcome d (f []) r k .answer)
+  outcome-kind f r k = outcome-by (λ (o : Outcome V). Kind-if-accepted k (o .answer)) d (f []) r k (λ e q i. absurd i) (λ ns. accepted-kind f r k)
 
   joined : (k : Call V) (x : Option (Operation V V ℕ)) (run : History V) (ks : List (Call V)) → Kind k x → Alike run (eventsOf ks) → Alike (withOperation (crewOf k) x run) (eventsOf (k ∷ ks))
   joined k None run ks m a = absurd m
@@ -69,7 +69,7 @@ module _ {V : Type 0} (d : V) where
   run-alike : (s : Register V) (f₀ : Meaning) {log : List (Step V)} {r : Register V} {f : Meaning} → Run d s f₀ log r f → AllAccepted log → Alike (historyOf log) (eventsOf (madeBy log))
   run-alike s f₀ Run.starts ok = none
   run-alike s f₀ (Run.then {log = log} {r = r} {f = f} {k = k} {a = a} rn p) ok =
-      joined k (operationOf k a) (historyOf log) (madeBy log) (subst (Kind-if-ok k) (sym (p .answers)) (outcome-kind f r k) (ok .0)) (run-alike s f₀ rn (ok .1))
+      joined k (operationOf k a) (historyOf log) (madeBy log) (subst (Kind-if-accepted k) (sym (p .answers)) (outcome-kind f r k) (ok .0)) (run-alike s f₀ rn (ok .1))
   run-alike s f₀ (Run.passed-over rn) ok = absurd (ok .0)
 
 pub accepted-calls-have-order : (V : Type 0) → AcceptedCallsHaveAnOrder V

@@ -29,7 +29,7 @@ use Rattle.rules.specs.declared.calls.Answer.the-variants.{Ended, Told}
 use Rattle.rules.specs.declared.calls.Call.{Call}
 use Rattle.rules.specs.declared.calls.Call.the-variants.{Abandon, Commit, Open, Read, Write}
 use Rattle.rules.proofs.Changing.{inside, most-at, most-least, spot-in}
-use Rattle.guarantee.specs.RuleFacts.{Bounds, CommitBoundIsLargest, EveryCallCanBePerformed, NoOutcomeDependsOnDefault, ReadsWritten, SoundHead}
+use Rattle.guarantee.specs.RuleFacts.{AtLeastEach, CommitBoundIsLargest, EveryCallCanBePerformed, NoOutcomeDependsOnDefault, ReadsWritten, SoundHead}
 use Rattle.guarantee.proofs.Invariant.{performed}
 use Rattle.guarantee.proofs.Opacity.{b}
 use Rattle.guarantee.proofs.Passing.{None-of, Sized, Working, cell-passes, free, outcome-by, same-outcome, sized, working}
@@ -226,7 +226,7 @@ module _ {V : Type 0} (r : Register V) (w : ℕ) where
       let l : crew u ≤ most crew (r .head .sizes .crews) = most-at crew (r .head .sizes .crews) u (h .a-crew .0) (h .a-crew .1) in
       let m : lowOf r u + 1 ≤ most crew (r .head .sizes .crews) = rw e at l in omega arith
 
-  bounded : (x : ℕ) → Bounds r w x → commitLow r w ≤ x
+  bounded : (x : ℕ) → AtLeastEach r w x → commitLow r w ≤ x
   bounded x k =
       let l = k .own-low in
       let p = most-least cell (r .head .sizes .cells) x (λ c a b. at-most (hasWritten r w c) (max (at (r .tables .written) c 0) (at (r .tables .read) c 0)) x (λ e. omega (arith, k .written-cells c a b e))) in
@@ -242,7 +242,7 @@ module _ {V : Type 0} (r : Register V) (w : ℕ) where
 
 pub commit-bound-is-largest : (V : Type 0) → CommitBoundIsLargest V
 commit-bound-is-largest V r w = record {
-  bounds = record { own-low = omega arith; written-cells = cell-up r w; other-readers = crew-up r w };
+  at-least-each = record { own-low = omega arith; written-cells = cell-up r w; other-readers = crew-up r w };
   none-lower = bounded r w;
   none-written = λ none.
       let l = bounded r w (lowOf r w) (record {

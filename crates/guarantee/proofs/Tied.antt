@@ -22,7 +22,7 @@ use Rattle.rules.specs.Registers.{Register, flagOf, hasJob, hasRead, hasWritten
 use Rattle.rules.specs.Tables.{at, cleared, each, most, put, readFlag, some, spot, withRead, withWritten, writtenFlag}
 use Rattle.rules.specs.declared.calls.Answer.{Answer}
 use Rattle.rules.proofs.Changing.{at-each, at-put, first-read, first-written, getD-cleared, getD-spot, length-each, most-at, written-read, written-written}
-use Rattle.guarantee.proofs.Counting.{busy, busy-put, length-cleared, one-no, one-yes}
+use Rattle.guarantee.proofs.Counting.{busy, busy-updated, length-cleared, one-no, one-yes}
 use Rattle.guarantee.proofs.Passing.{Sized, Working}
 
 ---- The tie
@@ -48,9 +48,9 @@ pub record Tie {V : Type 0} (d : V) (r : Register V) (s : RegisterView V) : Type
   pub fits : Fits (r .head .sizes) (r .tables)
 
 -- one of the cells
-some-meets : {V : Type 0} (t : ℕ → Bool) (s : RegisterView V) (w u n : ℕ) → ((c : ℕ) → 1 ≤ c → c ≤ n → t c ≡ (s .hasRead u c && s .hasWritten w c)) → some t n ≡ conflicts s w u n
-some-meets t s w u zero h = refl
-some-meets t s w u (suc n) h = ap₂ _||_ (h (suc n) (omega arith) (omega arith)) (some-meets t s w u n (λ c a b. h c a (omega arith)))
+some-conflict : {V : Type 0} (t : ℕ → Bool) (s : RegisterView V) (w u n : ℕ) → ((c : ℕ) → 1 ≤ c → c ≤ n → t c ≡ (s .hasRead u c && s .hasWritten w c)) → some t n ≡ conflicts s w u n
+some-conflict t s w u zero h = refl
+some-conflict t s w u (suc n) h = ap₂ _||_ (h (suc n) (omega arith) (omega arith)) (some-conflict t s w u n (λ c a b. h c a (omega arith)))
 
 pub tied-open : (b : Bool) (j : JobRecord) (x l h : ℕ) → b ≡ true → Tied b j x l h → (x ≡ j .job .0) × (1 ≤ x) × (l ≡ j .low .0) × (h ≡ j .high .0)
 tied-open true j x l h e t = t
@@ -148,7 +148,7 @@ module _ {V : Type 0} (d : V) (r : Register V) (s : RegisterView V) (tie : Tie d
     writes-are = tie .writes-are;
     highest-is = tie .highest-is;
     opened-is = omega (arith, tie .opened-is);
-    active-is = omega (arith, busy-put (s .job) w (suc (s .opened)) (r .head .sizes .crews) (z .from-one) (z .to-crews), one-no (s .job w) (no-job e), one-yes (suc (s .opened)) (omega arith), tie .active-is);
+    active-is = omega (arith, busy-updated (s .job) w (suc (s .opened)) (r .head .sizes .crews) (z .from-one) (z .to-crews), one-no (s .job w) (no-job e), one-yes (suc (s .opened)) (omega arith), tie .active-is);
     under-top = updated-below (s .high) w top top (omega arith) (tie .under-top);
     fits = record { values = z .fits .values; written = z .fits .written; read = z .fits .read; jobs = length-set (r .tables .jobs) (w - 1) _ ∙ z .fits .jobs; own = z .fits .own; flags = z .fits .flags; book = z .fits .book };
   }
@@ -263,7 +263,7 @@ module _ {V : Type 0} (d : V) (r : Register V) (s : RegisterView V) (tie : Tie d
   ---- endings
 
   ended-active : 1 ≤ s .job w → r .head .active - 1 ≡ busy (updated (s .job) w 0) (r .head .sizes .crews)
-  ended-active j = omega (arith, busy-put (s .job) w 0 (r .head .sizes .crews) (z .from-one) (z .to-crews), one-yes (s .job w) j, one-no 0 refl, tie .active-is)
+  ended-active j = omega (arith, busy-updated (s .job) w 0 (r .head .sizes .crews) (z .from-one) (z .to-crews), one-yes (s .job w) j, one-no 0 refl, tie .active-is)
 
   row-put : (g : ℕ → Bool) (t : ℕ → ℕ → Bool) → g 0 ≡ false → ((u k : ℕ) → 1 ≤ u → u ≤ r .head .sizes .crews → 1 ≤ k → k ≤ r .head .sizes .cells → g (flagOf r u k) ≡ t u k) →
       (u k : ℕ) → 1 ≤ u → u ≤ r .head .sizes .crews → 1 ≤ k → k ≤ r .head .sizes .cells → g (getD (cleared (r .tables .flags) (r .head .sizes .cells) w) (spot (r .head .sizes .cells) u k) 0) ≡ updated t w (λ c. false) u k
@@ -306,7 +306,7 @@ module _ {V : Type 0} (d : V) (r : Register V) (s : RegisterView V) (tie : Tie d
   }
 
   pub touched : (u : ℕ) → 1 ≤ u → u ≤ r .head .sizes .crews → touches r w u ≡ conflicts s w u (r .head .sizes .cells)
-  touched u a b = some-meets (λ c. hasRead r u c && hasWritten r w c) s w u (r .head .sizes .cells) (λ c x y. ap₂ _&&_ (tie .reads-are u c a b x y) (tie .writes-are w c (z .from-one) (z .to-crews) x y))
+  touched u a b = some-conflict (λ c. hasRead r u c && hasWritten r w c) s w u (r .head .sizes .cells) (λ c x y. ap₂ _&&_ (tie .reads-are u c a b x y) (tie .writes-are w c (z .from-one) (z .to-crews) x y))
 
   pub accepts-commit : (p : ℕ) → Working r w → commitLow r w < p → p < highOf r w → ((c : ℕ) → s .hasWritten w c ≡ true → (1 ≤ c) × (c ≤ r .head .sizes .cells)) → Accepts top (r .head .sizes .cells) s w (Operation.commits p)
   accepts-commit p k a b range = let o = of-open (k .has) in
