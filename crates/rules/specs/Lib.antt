@@ -3,3 +3,8 @@ pub mod Heads
 pub mod Contents
 pub mod Refusing
 pub mod Making
+pub mod Tables
+pub mod Registers
+pub mod JobCalls
+pub mod Performing
+pub mod Runs

@@ -11,7 +11,7 @@ use Rattle.terms.specs.declared.refusals.Refusal.{Refusal}
 use Rattle.terms.specs.declared.refusals.Refusal.the-variants.{NoCell, NotFilled}
 use Rattle.rules.specs.declared.head.Filling.{Filling}
 use Rattle.rules.specs.declared.head.Started.{Started}
-use Rattle.rules.specs.Heads.{Dimensions, FillingHead, StartedHead, fillingOf, startedOf}
+use Rattle.rules.specs.Heads.{Dimensions, SizesInRange, FillingHead, StartedHead, fillingOf, startedOf}
 use Rattle.rules.specs.Contents.{Contents, Fits, closedRecord}
 use Rattle.rules.specs.Refusing.{Tests, firstRefusal, ifRefused, sizeTests}
 
@@ -78,6 +78,7 @@ startOutcome head t = ifRefused (firstRefusal (startTests head t))
 
 -- a register as start leaves it
 pub record JustStarted {V : Type 0} (head : StartedHead) (t : Contents V) : Type 0 where
+  pub sizes-in-range : SizesInRange (head .sizes)
   pub head-fresh : head ≡ freshHead (head .sizes)
   pub contents-fresh : t ≡ freshContents (head .sizes) t
   pub fits : Fits (head .sizes) t

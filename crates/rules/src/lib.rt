@@ -1,4 +1,5 @@
-// The register's head and tables; in specs/, the rules: what each call answers and leaves.
+// The register's head, tables and calls; in specs/, the rules: what each call answers and leaves.
+pub mod calls;
 pub mod head;
 pub mod sizes;
 pub mod tables;

@@ -1,0 +1,16 @@
+pub mod Started
+pub mod Passing
+pub mod Histories
+pub mod Counting
+pub mod Tied
+pub mod Orders
+pub mod Booked
+pub mod Invariant
+pub mod Opacity
+pub mod RuleFacts
+pub mod Soundness
+pub mod Scripts
+pub mod Bounding
+pub mod Accepting
+pub mod Permissiveness
+pub mod Examples

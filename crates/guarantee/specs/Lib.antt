@@ -1,0 +1,6 @@
+pub mod RuleFacts
+pub mod Histories
+pub mod Opacity
+pub mod Soundness
+pub mod Permissiveness
+pub mod Examples

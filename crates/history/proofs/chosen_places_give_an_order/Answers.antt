@@ -1,0 +1,5 @@
+use Rattle.history.proofs.chosen_places_give_an_order.Needs as need
+use Rattle.history.proofs.Choosing.{chosen-has-order}
+
+pub returns : need.returns
+returns g c = λ chooser k₀ first own z calls law t a. chosen-has-order z first own chooser law k₀ calls t a

@@ -1,0 +1,11 @@
+pub mod Events
+pub mod Projections
+pub mod Values
+pub mod Precedence
+pub mod SerialExecution
+pub mod WellMade
+pub mod Bounds
+pub mod Views
+pub mod Acceptance
+pub mod Theorems
+pub mod Examples
