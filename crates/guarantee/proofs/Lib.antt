@@ -14,3 +14,4 @@ pub mod Bounding
 pub mod Accepting
 pub mod Permissiveness
 pub mod Examples
+pub mod Promise

@@ -3,4 +3,5 @@ pub mod Histories
 pub mod Opacity
 pub mod Soundness
 pub mod Permissiveness
+pub mod Promise
 pub mod Examples

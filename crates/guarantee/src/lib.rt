@@ -3,6 +3,7 @@ ghost use Rattle.guarantee.specs.RuleFacts.{NoOutcomeDependsOnDefault, EveryCa
 ghost use Rattle.guarantee.specs.Histories.{HistoriesAreTrue};
 ghost use Rattle.guarantee.specs.Opacity.{EveryRunIsOpaque, EveryMomentIsOpaque};
 ghost use Rattle.guarantee.specs.Soundness.{EveryRunIsSound};
+ghost use Rattle.guarantee.specs.Promise.{PromiseIsKept};
 ghost use Rattle.guarantee.specs.Permissiveness.{RegisterIsPermissive, AcceptedCallsHaveAnOrder, EveryListCanBePerformed};
 ghost use Rattle.guarantee.specs.Examples.{ExamplesStand};
 
@@ -79,6 +80,13 @@ pub fn every_list_can_be_performed<V>() -> u8
 // Of two small lists of calls on a register just started, one is never accepted whole, and the other is with a script.
 pub fn examples_stand() -> u8
     ensures { λ _. ⌜ ExamplesStand ⌝ }
+{
+    0
+}
+
+// The whole promise at once, as the call that makes a list of calls carries it.
+pub fn promise_is_kept<V>() -> u8
+    ensures { λ _. ⌜ PromiseIsKept V ⌝ }
 {
     0
 }
