@@ -6,11 +6,12 @@ use mathlib.Core.Logic.{_⊎_, inl, inr}
 use Prim.Native.Nat.{ℕ, suc, _+_}
 use native.Mathlib.Omega.{arith}
 use lib.Dec.{eqb}
+use Rattle.std.specs.Options.{isSome}
 use Rattle.std.specs.declared.option.Option.the-variants.{Some, None}
 use Rattle.std.proofs.shelf.Tests.{eqb-true, eq-eqb, ne-eqb, both-ways}
 use Rattle.terms.specs.declared.records.Ending.the-variants.{Abandoned, Committed}
 use Rattle.terms.specs.declared.records.Entry.{Entry}
-use Rattle.history.specs.Events.{History, Operation, byJobs, crewOf, endsAt, isSome, openJob, openings}
+use Rattle.history.specs.Events.{History, Operation, byJobs, crewOf, endsAt, openJob, openings}
 use Rattle.history.specs.Events.Event.{by}
 use Rattle.history.specs.Events.Operation.{abandons, commits, opens, reads, writes}
 use Rattle.history.specs.Precedence.{In}

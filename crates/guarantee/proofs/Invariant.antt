@@ -19,6 +19,7 @@ use Rattle.terms.specs.declared.records.JobRecord.{JobRecord}
 use Rattle.terms.specs.declared.refusals.Refusal.{Refusal}
 use Rattle.terms.specs.declared.refusals.Refusal.the-variants.{NoPlace, Stale}
 use Rattle.choosers.specs.Meaning.{KeepsLaw, Meaning}
+use Rattle.choosers.proofs.Moves.{moved-lawful}
 use Rattle.history.specs.Events.{History, Operation, endsAt, openJob, openings}
 use Rattle.history.specs.Events.Event.{by}
 use Rattle.history.specs.Views.{Accepts, RegisterView, ViewRun, freshView, viewAfter}
@@ -53,7 +54,7 @@ pub record Inv {V : Type 0} (d : V) (s : Register V) (run : History V) (r : Regi
 
 pub keeps-on : (f : Meaning) (q : Option (ℕ × ℕ)) → KeepsLaw f → KeepsLaw (movedIf f q)
 keeps-on f None k = k
-keeps-on f (Some q) k = record { between = λ ps. k .between (q ∷ ps); low-without-room = λ ps. k .low-without-room (q ∷ ps); unmoved-without-room = λ qs ps. k .unmoved-without-room (q ∷ qs) ps }
+keeps-on f (Some q) k = moved-lawful f (q .0) (q .1) k
 
 pub tie-book : {V : Type 0} (d : V) (r : Register V) (es : List Entry) (s : RegisterView V) → length es ≡ length (r .tables .book) → Tie d r s → Tie d (withBook r es) s
 tie-book d r es s e t = record {

@@ -7,12 +7,13 @@ use Prim.Native.Nat.{ℕ, zero, suc, _+_, _≤_, _<_}
 use native.Mathlib.Omega.{arith}
 use native.Mathlib.Decide.{decLe}
 use lib.Dec.{eqb, leb, lit≤}
+use Rattle.std.specs.Options.{isSome}
 use Rattle.std.specs.declared.option.Option.{Option}
 use Rattle.std.proofs.shelf.Tests.{eqb-true, eqb-false, both-ways}
 use Rattle.terms.specs.declared.records.Entry.{Entry}
 use Rattle.choosers.specs.Meaning.{KeepsLaw, Meaning}
 use Rattle.history.specs.Bounds.{Bounds, Placed, Tracked, boundsByJob, sortKey, sortKeyAt}
-use Rattle.history.specs.Events.{Event, History, Operation, byJobs, isSome, openings}
+use Rattle.history.specs.Events.{Event, History, Operation, byJobs, openings}
 use Rattle.history.specs.Events.Event.{by}
 use Rattle.history.specs.Events.Operation.{abandons, commits, opens, reads, writes}
 use Rattle.history.specs.Precedence.{Ended, Extends, In, Occurs, Precedes, Respects, SerializationOrder, StandsBefore}
