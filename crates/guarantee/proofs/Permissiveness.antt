@@ -1,10 +1,11 @@
 -- The whole list, both ways.
-use mathlib.Core.Path.{refl, sym, ap, subst}
+use mathlib.Core.Path.{_≡_, refl, sym, ap, subst}
+use mathlib.Core.Bool.{Bool, true, _&&_}
 use mathlib.Core.List.{List, [], _∷_}
 use Prim.Native.Nat.{ℕ, _+_, _≤_}
 use native.Mathlib.Omega.{arith}
-use lib.Dec.{ltb, lit≤}
-use Rattle.std.proofs.shelf.Tests.{cond-both}
+use lib.Dec.{leb, ltb, lit≤}
+use Rattle.std.proofs.shelf.Tests.{and-parts, cond-both, leb-true}
 use Rattle.std.specs.declared.option.Option.{Option}
 use Rattle.std.specs.declared.option.Option.the-variants.{Some, None}
 use Rattle.std.specs.declared.result.Result.{Result}
@@ -23,7 +24,8 @@ use Rattle.history.proofs.Alike.Alike.{more, none}
 use Rattle.history.proofs.Alike.SameCall.{abandon-abandon, commit-commit, open-open, read-read, write-write}
 use Rattle.history.proofs.Choosing.{positions-script}
 use Rattle.rules.specs.JobCalls.{Outcome, accepted, commitLow, crewOf, outcome, raisedLow}
-use Rattle.rules.specs.Limits.{mostEntries, top}
+use Rattle.rules.specs.Heads.{Dimensions, SizesInRange}
+use Rattle.rules.specs.Limits.{mostCells, mostCrews, mostEntries, top}
 use Rattle.rules.specs.Making.{JustStarted}
 use Rattle.rules.specs.Registers.{Register, hasWritten, highOf, ownOf}
 use Rattle.rules.specs.Runs.{Performed, Run, Step}
@@ -110,6 +112,13 @@ every-list-can-be-performed V d s f j ke ks = sound-run d s f (first-sound s j) 
 
 ---- From an order to every run
 
+last-holds : (a b c d e f : Bool) → ((a && b) && ((c && d) && (e && f))) ≡ true → f ≡ true
+last-holds a b c d e f q = and-parts e f (and-parts (c && d) (e && f) (and-parts (a && b) ((c && d) && (e && f)) q .1) .1) .1
+
+entries-fit : (z : Dimensions) → SizesInRange z → z .entries ≤ mostEntries
+entries-fit z q = leb-true (z .entries) mostEntries
+    (last-holds (leb 1 (z .cells)) (leb (z .cells) mostCells) (leb 1 (z .crews)) (leb (z .crews) mostCrews) (leb 1 (z .entries)) (leb (z .entries) mostEntries) q)
+
 module _ {V : Type 0} (d : V) (s : Register V) (j : JustStarted (s .head) (s .tables)) where
   at-first : (f₀ : Meaning) → Abreast d s (freshView (cellValues d s) (ownOf d s)) f₀ s f₀
   at-first f₀ = record { tie = start-tie d s j; same-sizes = refl; means = refl }
@@ -133,7 +142,7 @@ module _ {V : Type 0} (d : V) (s : Register V) (j : JustStarted (s .head) (s .ta
   older f₀ (later t) (more m al) (RunWith.goes-on sv now) = older f₀ t al sv
 
   book-under-top : s .head .sizes .entries + 2 ≤ top
-  book-under-top = let t : mostEntries + 2 ≤ top = lit≤ tt in omega (arith, j .sizes-in-range .entries-fit)
+  book-under-top = let t : mostEntries + 2 ≤ top = lit≤ tt in omega (arith, t, entries-fit (s .head .sizes) (j .sizes-in-range))
 
   -- where every run accepts every call, one does
   pub some-from-every : (ks : List (Call V)) (f : Meaning) → KeepsLaw f → EveryRunAccepts d s f ks → SomeRunAccepts d s f ks
