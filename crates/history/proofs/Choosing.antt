@@ -1,6 +1,6 @@
 -- A register that asks a chooser for its places: what it accepts has an order, and what has an order it accepts with a script.
 use mathlib.Core.Path.{_≡_, refl, sym, ap, subst}
-use mathlib.Core.List.{List, [], _∷_}
+use mathlib.Core.List.{List, [], _∷_, reverse, reverseAux}
 use mathlib.Core.Bool.{Bool, true, false, cond, not, _&&_}
 use mathlib.Core.Logic.{_↔_}
 use Prim.Native.Nat.{ℕ, zero, suc, _+_, _≤_, _<_, min, max}
@@ -17,7 +17,7 @@ use Rattle.history.specs.Events.Event.{by}
 use Rattle.history.specs.Precedence.{SerializationOrder}
 use Rattle.history.specs.WellMade.{Calls, UpTo, InRange, WellMadeList}
 use Rattle.history.specs.Views.{RegisterView, conflicts, Accepts, viewAfter, ViewRun}
-use Rattle.history.specs.Acceptance.{placesOf, position, positions, reverseOnto, cellsLowerBound, isOpenReader, readersLowerBound, commitLowerBound, Sizes, AtWork, AcceptsWith, meaningAfter, RunWith, AcceptedWith}
+use Rattle.history.specs.Acceptance.{placesOf, position, positions, cellsLowerBound, isOpenReader, readersLowerBound, commitLowerBound, Sizes, AtWork, AcceptsWith, meaningAfter, RunWith, AcceptedWith}
 use Rattle.history.proofs.Crews.{openings-tail}
 use Rattle.history.proofs.Viewing.{RunFacts, run-facts}
 use Rattle.history.proofs.Alike.{Alike, alike-sym, openings-alike, range-alike, calls-alike}
@@ -169,7 +169,7 @@ module _ {V : Type 0} (z : Sizes) (first : ℕ → V) (own : ℕ → ℕ → V) 
   high-below (ViewRun.goes-on {s = s} {w = w} {o = d} g ac) u = high-step s (high-below g) w d u
 
   abbrev ByScript : History V → RegisterView V → Type 0
-  ByScript run s = (qs : List ℕ) → RunWith (scriptMeaning (reverseOnto (placesOf run) qs)) z first own run s (scriptMeaning qs)
+  ByScript run s = (qs : List ℕ) → RunWith (scriptMeaning (reverseAux (placesOf run) qs)) z first own run s (scriptMeaning qs)
 
   at-work : (run : History V) (s : RegisterView V) → RunFacts (z .top) (z .cells) first run s → ((u : ℕ) → s .high u ≤ z .top) → (w : ℕ) → UpTo (z .crews) w → 1 ≤ s .job w → AtWork z s w
   at-work run s holds hb w c j = record { a-crew = c; a-job = j; room = holds .view-facts .room w (rw (← holds .view-facts .job-is w) j); below-top = hb w }
@@ -180,11 +180,11 @@ module _ {V : Type 0} (z : Sizes) (first : ℕ → V) (own : ℕ → ℕ → V) 
   accepts-by-script run s holds hb w (writes c v) ac r f ih qs = RunWith.goes-on (ih qs) (at-work run s holds hb w (r .0) (ac .0), r .1)
   accepts-by-script run s holds hb w (commits p) ac r f ih qs =
       let l : commitLowerBound (z .cells) (z .crews) s w < p = omega (arith, ac .1, cells-bound-below (z .cells) s w p (z .cells) (omega (arith, ac .1)) (ac .3), readers-bound-below (z .cells) s w p (z .crews) (omega (arith, ac .1)) (ac .4)) in
-      subst (λ f. RunWith (scriptMeaning (reverseOnto (placesOf run) (p ∷ qs))) z first own (by w (commits p) ∷ run) (viewAfter (z .top) (z .cells) s w (commits p)) f)
+      subst (λ f. RunWith (scriptMeaning (reverseAux (placesOf run) (p ∷ qs))) z first own (by w (commits p) ∷ run) (viewAfter (z .top) (z .cells) s w (commits p)) f)
       (script-left p qs (commitLowerBound (z .cells) (z .crews) s w) (s .high w) l (ac .2))
       (RunWith.goes-on (ih (p ∷ qs)) (at-work run s holds hb w (r .0) (ac .0), omega (arith, l, ac .2), sym (script-gives p qs (commitLowerBound (z .cells) (z .crews) s w) (s .high w) l (ac .2))))
   accepts-by-script run s holds hb w (abandons p) ac r f ih qs =
-      subst (λ f. RunWith (scriptMeaning (reverseOnto (placesOf run) (p ∷ qs))) z first own (by w (abandons p) ∷ run) (viewAfter (z .top) (z .cells) s w (abandons p)) f)
+      subst (λ f. RunWith (scriptMeaning (reverseAux (placesOf run) (p ∷ qs))) z first own (by w (abandons p) ∷ run) (viewAfter (z .top) (z .cells) s w (abandons p)) f)
       (script-left p qs (s .low w) (s .high w) (ac .1) (ac .2))
       (RunWith.goes-on (ih (p ∷ qs)) (at-work run s holds hb w (r .0) (ac .0), sym (script-gives p qs (s .low w) (s .high w) (ac .1) (ac .2))))
 
@@ -195,7 +195,7 @@ module _ {V : Type 0} (z : Sizes) (first : ℕ → V) (own : ℕ → ℕ → V) 
   view-run-by-script ViewRun.starts r f = λ qs. RunWith.starts
   view-run-by-script (ViewRun.goes-on {run = run} {s = s} {w = w} {o = d} g ac) r f = accepts-by-script run s (run-facts (z .top) (z .cells) first own g) (high-below g) w d ac r f (view-run-by-script g (range-tail w d run r) (omega (arith, openings-tail w d run, f)))
 
-  pub positions-script : (cs : Calls V) → z .entries + 2 ≤ z .top → WellMadeList (z .cells) (z .crews) (z .entries) cs → (row : List ℕ) → SerializationOrder (byJobs cs) row → AcceptedWith (scriptMeaning (reverseOnto (positions (position row) cs) [])) z first own cs
+  pub positions-script : (cs : Calls V) → z .entries + 2 ≤ z .top → WellMadeList (z .cells) (z .crews) (z .entries) cs → (row : List ℕ) → SerializationOrder (byJobs cs) row → AcceptedWith (scriptMeaning (reverse (positions (position row) cs))) z first own cs
   positions-script cs t wl row l =
       let a = positions-accepted first own (z .top) (z .cells) (z .crews) (z .entries) cs t wl row l in
       let k = subst (λ y. Alike (a .run) y) (a .same-calls) (calls-alike (a .run)) in
@@ -204,13 +204,13 @@ module _ {V : Type 0} (z : Sizes) (first : ℕ → V) (own : ℕ → ℕ → V) 
         view = a .view;
         meaning = scriptMeaning [];
         same-calls = a .same-calls;
-        run-with = subst (λ ps. RunWith (scriptMeaning (reverseOnto ps [])) z first own (a .run) (a .view) (scriptMeaning [])) (a .same-places)
+        run-with = subst (λ ps. RunWith (scriptMeaning (reverse ps)) z first own (a .run) (a .view) (scriptMeaning [])) (a .same-places)
             (view-run-by-script (a .view-run) (range-alike (z .cells) (z .crews) (alike-sym k) (wl .in-range)) (rw (openings-alike k) (wl .entries-suffice)) []);
       }
 
 pub scripts-permissive : {V : Type 0} (first : ℕ → V) (own : ℕ → ℕ → V) (z : Sizes) (cs : Calls V) → z .entries + 2 ≤ z .top → WellMadeList (z .cells) (z .crews) (z .entries) cs →
     ((row : List ℕ) × SerializationOrder (byJobs cs) row) ↔ ((numbers : List ℕ) × AcceptedWith (scriptMeaning numbers) z first own cs)
 scripts-permissive first own z cs t wl = (
-  (λ l. (reverseOnto (positions (position (l .0)) cs) [], positions-script z first own cs t wl (l .0) (l .1))),
+  (λ l. (reverse (positions (position (l .0)) cs), positions-script z first own cs t wl (l .0) (l .1))),
   (λ a. chosen-has-order z first own (scriptMeaning (a .0)) (script-lawful (a .0)) cs (omega arith) (a .1)),
 )

@@ -7,11 +7,12 @@ use Prim.Native.Nat.{ℕ, zero, suc, _+_, _≤_, _<_, min, max}
 use native.Mathlib.Omega.{arith}
 use lib.Dec.{eqb}
 use Rattle.std.proofs.shelf.Tests.{eqb-true, eqb-false, eq-eqb, ne-eqb, both-ways, and-from, or-left, or-right}
+use Rattle.std.specs.Options.{valueOr}
 use Rattle.std.specs.declared.option.Option.the-variants.{Some, None}
 use Rattle.history.specs.Events.{Operation, Event, History, openings, openJob, byJobs}
 use Rattle.history.specs.Events.Operation.{opens, reads, writes, commits, abandons}
 use Rattle.history.specs.Events.Event.{by}
-use Rattle.history.specs.Projections.{projection, buffered, isActive, orElse, endPlace}
+use Rattle.history.specs.Projections.{projection, buffered, isActive, endPlace}
 use Rattle.history.specs.Values.{committedValue, ReadsCurrent}
 use Rattle.history.specs.Precedence.{Wrote, ReadGlobally}
 use Rattle.history.specs.SerialExecution.{Opaque}
@@ -140,12 +141,12 @@ module _ {V : Type 0} (top n : ℕ) (first : ℕ → V) (run : History V) (s : R
   well-made-step w (commits p) ac wm = (open-job-of w (ac .0), wm)
   well-made-step w (abandons p) ac wm = (open-job-of w (ac .0), wm)
 
-  shown : (b : Bool) (o v : V) → cond b o v ≡ orElse (cond b (Some o) None) v
+  shown : (b : Bool) (o v : V) → cond b o v ≡ valueOr (cond b (Some o) None) v
   shown true o v = refl
   shown false o v = refl
 
-  own-or-value : (w c : ℕ) → 1 ≤ openJob run w → cond (s .hasWritten w c) (s .own w c) (s .value c) ≡ orElse (buffered (projection (byJobs run) (openJob run w)) c) (committedValue first (byJobs run) c)
-  own-or-value w c a = shown (s .hasWritten w c) (s .own w c) (s .value c) ∙ ap₂ orElse (sym (facts .own-is w c a)) (facts .value-is c)
+  own-or-value : (w c : ℕ) → 1 ≤ openJob run w → cond (s .hasWritten w c) (s .own w c) (s .value c) ≡ valueOr (buffered (projection (byJobs run) (openJob run w)) c) (committedValue first (byJobs run) c)
+  own-or-value w c a = shown (s .hasWritten w c) (s .own w c) (s .value c) ∙ ap₂ valueOr (sym (facts .own-is w c a)) (facts .value-is c)
 
   reads-current-step : (w : ℕ) (d : Operation V V ℕ) → Accepts top n s w d → ReadsCurrent first (byJobs run) → ReadsCurrent first (byJobs (by w d ∷ run))
   reads-current-step w opens ac rc = rc

@@ -43,11 +43,6 @@ abbrev pub positions : {V R P : Type 0} → (ℕ → ℕ) → Events V R P → L
 positions place [] = []
 positions place (by w o ∷ run) = cond (isEnding o) (place (openJob run w) ∷ positions place run) (positions place run)
 
--- a list the other way round, before another: the places of a run, newest first, as a script's numbers
-abbrev pub reverseOnto : List ℕ → List ℕ → List ℕ
-reverseOnto [] qs = qs
-reverseOnto (p ∷ ps) qs = reverseOnto ps (p ∷ qs)
-
 ---- The low bound that a commit asks for
 
 -- the largest written or read place of the cells up to n that crew w has written

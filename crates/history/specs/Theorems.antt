@@ -1,5 +1,5 @@
 -- The theorems, each for every type V of values. The functions of src/ that have them for contracts have the same names in small letters.
-use mathlib.Core.List.{List, []}
+use mathlib.Core.List.{List, reverse}
 use mathlib.Core.Logic.{_↔_}
 use Prim.Native.Nat.{ℕ, _+_, _≤_}
 use Rattle.choosers.specs.Meaning.{Meaning, KeepsLaw}
@@ -12,7 +12,7 @@ use Rattle.history.specs.SerialExecution.{SeriallyExplained, Opaque}
 use Rattle.history.specs.WellMade.{WellMade, Calls, callsOf, WellMadeList}
 use Rattle.history.specs.Bounds.{Placed, sortKey, Ascending, Bounds, Tracked, boundsByJob, CrewRun}
 use Rattle.history.specs.Views.{RegisterView, ViewRun, ViewAgrees}
-use Rattle.history.specs.Acceptance.{AcceptedAt, position, positions, reverseOnto, Sizes, RunWith, AcceptedWith}
+use Rattle.history.specs.Acceptance.{AcceptedAt, position, positions, Sizes, RunWith, AcceptedWith}
 
 ---- Serial execution explains what a register told
 
@@ -82,7 +82,7 @@ ScriptsArePermissive V = (first : ℕ → V) (own : ℕ → ℕ → V) (z : Size
 -- and such a script has the positions of the jobs in a serialization order, as the jobs end
 abbrev pub PositionsMakeAScript : Type 0 → Type 0
 PositionsMakeAScript V = (first : ℕ → V) (own : ℕ → ℕ → V) (z : Sizes) (calls : Calls V) → z .entries + 2 ≤ z .top → WellMadeList (z .cells) (z .crews) (z .entries) calls →
-    (row : List ℕ) → SerializationOrder (byJobs calls) row → AcceptedWith (scriptMeaning (reverseOnto (positions (position row) calls) [])) z first own calls
+    (row : List ℕ) → SerializationOrder (byJobs calls) row → AcceptedWith (scriptMeaning (reverse (positions (position row) calls))) z first own calls
 
 ---- With any chooser that keeps the law
 
