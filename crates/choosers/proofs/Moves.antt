@@ -32,7 +32,8 @@ moved-with-room numbers low high room =
 pub next-first : (numbers : List ℕ) (used : ℕ) → used < length numbers → drop used numbers ≡ getD numbers used 0 ∷ drop (used + 1) numbers
 next-first numbers used more = rw (add-one, drop-cons numbers used 0)
 
-pub moved-next : (numbers : List ℕ) (used low high : ℕ) → used < length numbers → noRoom low high ≡ false → scriptMeaning (drop (used + 1) numbers) ≡ movedOn (scriptMeaning (drop used numbers)) low high
+pub moved-next : (numbers : List ℕ) (used low high : ℕ) → used < length numbers → noRoom low high ≡ false →
+    scriptMeaning (drop (used + 1) numbers) ≡ movedOn (scriptMeaning (drop used numbers)) low high
 moved-next numbers used low high more room =
     ap (λ (left : List ℕ). scriptMeaning (afterNext left)) (sym (next-first numbers used more)) ∙ moved-with-room (drop used numbers) low high room
 

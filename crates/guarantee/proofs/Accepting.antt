@@ -25,7 +25,8 @@ use Rattle.history.specs.WellMade.{UpTo}
 use Rattle.history.proofs.Alike.{SameCall}
 use Rattle.history.proofs.Alike.SameCall.{abandon-abandon, commit-commit, open-open, read-read, write-write}
 use Rattle.rules.specs.Heads.{Dimensions}
-use Rattle.rules.specs.JobCalls.{Outcome, abandonOutcome, abandonedAt, accepted, commitLow, committedAt, crewOf, damaged, isOpening, openOutcome, outcome, raisedLow, readCell, readOwn, refused, testsOf, writeOutcome, wrongCell}
+use Rattle.rules.specs.JobCalls.{Outcome, abandonOutcome, abandonedAt, accepted, commitLow, committedAt, crewOf, damaged, isOpening}
+use Rattle.rules.specs.JobCalls.{openOutcome, outcome, raisedLow, readCell, readOwn, refused, testsOf, writeOutcome, wrongCell}
 use Rattle.rules.specs.Limits.{top}
 use Rattle.rules.specs.Performing.{Entered, Performs, movedIf, withBook}
 use Rattle.rules.specs.Refusing.{Tests, firstRefusal, ifRefused}
@@ -84,7 +85,8 @@ module _ {V : Type 0} (d : V) (q : Register V) (view : RegisterView V) (g : Mean
   abbrev Done : Outcome V → RegisterView V → Meaning → Type 0
   Done o view′ g′ = (bk : List Entry) → Entered (r .head .ended) (o .entry) (r .tables .book) bk → IsAccepted (o .answer) × Abreast d q view′ g′ (withBook (o .left) bk) (movedIf f (o .asked))
 
-  passes : (k : Call V) → outside (r .head .sizes .crews) (crewOf k) ≡ false → wrongCell (r .head .sizes .cells) k ≡ false → (isOpening k && hasJob r (crewOf k)) ≡ false → (not (isOpening k) && not (hasJob r (crewOf k))) ≡ false → (not (isOpening k) && damaged r (crewOf k)) ≡ false →
+  passes : (k : Call V) → outside (r .head .sizes .crews) (crewOf k) ≡ false → wrongCell (r .head .sizes .cells) k ≡ false →
+      (isOpening k && hasJob r (crewOf k)) ≡ false → (not (isOpening k) && not (hasJob r (crewOf k))) ≡ false → (not (isOpening k) && damaged r (crewOf k)) ≡ false →
       (isOpening k && ltb top (r .head .highest + 2)) ≡ false → (isOpening k && eqb (r .head .ended + r .head .active) (r .head .sizes .entries)) ≡ false → outcome d (f []) r k ≡ accepted d (f []) r k
   passes k a b c e u v w = ap (λ (o : Option Refusal). ifRefused o (λ e. refused e r) (accepted d (f []) r k)) (none-refused (testsOf r k) (
     size-passes _ _ (ab .tie .fits .values),
@@ -166,7 +168,8 @@ module _ {V : Type 0} (d : V) (q : Register V) (view : RegisterView V) (g : Mean
     },
   )
 
-  done-cell : (w c : ℕ) (v : V) → UpTo (z .crews) w → Working r w → 1 ≤ c → c ≤ r .head .sizes .cells → hasWritten r w c ≡ false → Done (readCell d r w c) (viewAfter top (z .cells) view w (reads c v)) g
+  done-cell : (w c : ℕ) (v : V) → UpTo (z .crews) w → Working r w → 1 ≤ c → c ≤ r .head .sizes .cells → hasWritten r w c ≡ false →
+      Done (readCell d r w c) (viewAfter top (z .cells) view w (reads c v)) g
   done-cell w c v u wk a b e bk q = (
     tt,
     record {
@@ -211,7 +214,8 @@ module _ {V : Type 0} (d : V) (q : Register V) (view : RegisterView V) (g : Mean
     },
   )
 
-  step-write : (w : CrewNumber) (c : CellNumber) (v : V) → AcceptsWith g z view (w .0) (writes (c .0) v) → Done (outcome d (f []) r (Write w c v)) (viewAfter top (z .cells) view (w .0) (writes (c .0) v)) g
+  step-write : (w : CrewNumber) (c : CellNumber) (v : V) → AcceptsWith g z view (w .0) (writes (c .0) v) →
+      Done (outcome d (f []) r (Write w c v)) (viewAfter top (z .cells) view (w .0) (writes (c .0) v)) g
   step-write w c v sv =
       let in-n : c .0 ≤ r .head .sizes .cells = rw (n-is) (sv .1 .1) in
       subst (λ (o : Outcome V). Done o (viewAfter top (z .cells) view (w .0) (writes (c .0) v)) g) (sym (passes-work (Write w c v) refl (within (r .head .sizes .cells) (c .0) (sv .1 .0) in-n) (sv .0)))
@@ -235,7 +239,8 @@ module _ {V : Type 0} (d : V) (q : Register V) (view : RegisterView V) (g : Mean
     },
   )
 
-  step-abandon : (w : CrewNumber) (p : ℕ) → AcceptsWith g z view (w .0) (abandons p) → Done (outcome d (f []) r (Abandon w)) (viewAfter top (z .cells) view (w .0) (abandons p)) (movedOn g (view .low (w .0)) (view .high (w .0)))
+  step-abandon : (w : CrewNumber) (p : ℕ) → AcceptsWith g z view (w .0) (abandons p) →
+      Done (outcome d (f []) r (Abandon w)) (viewAfter top (z .cells) view (w .0) (abandons p)) (movedOn g (view .low (w .0)) (view .high (w .0)))
   step-abandon w p sv =
       subst₂ (λ (l h : ℕ). Done (outcome d (f []) r (Abandon w)) (viewAfter top (z .cells) view (w .0) (abandons p)) (movedOn g l h)) (sym (o .2)) (sym (o .3))
       (subst (λ (o : Outcome V). Done o (viewAfter top (z .cells) view (w .0) (abandons p)) (movedOn g (lowOf r (w .0)) (highOf r (w .0)))) (sym (passes-work (Abandon w) refl refl (sv .0) ∙ ap (abandonedAt r (w .0) (λ p. Ok (Ended p))) place))
@@ -257,7 +262,8 @@ module _ {V : Type 0} (d : V) (q : Register V) (view : RegisterView V) (g : Mean
     },
   )
 
-  step-commit : (w : CrewNumber) (p : ℕ) → AcceptsWith g z view (w .0) (commits p) → Done (outcome d (f []) r (Commit w)) (viewAfter top (z .cells) view (w .0) (commits p)) (movedOn g (commitLowerBound (z .cells) (z .crews) view (w .0)) (view .high (w .0)))
+  step-commit : (w : CrewNumber) (p : ℕ) → AcceptsWith g z view (w .0) (commits p) →
+      Done (outcome d (f []) r (Commit w)) (viewAfter top (z .cells) view (w .0) (commits p)) (movedOn g (commitLowerBound (z .cells) (z .crews) view (w .0)) (view .high (w .0)))
   step-commit w p sv =
       subst₂ (λ (l h : ℕ). Done (outcome d (f []) r (Commit w)) (viewAfter top (z .cells) view (w .0) (commits p)) (movedOn g l h)) (sym fl) (sym (o .3))
       (subst (λ (o : Outcome V). Done o (viewAfter top (z .cells) view (w .0) (commits p)) (movedOn g (commitLow r (w .0)) (highOf r (w .0)))) (sym (passes-work (Commit w) refl refl (sv .0) ∙ (ap (λ (t : Bool). cond t (abandonOutcome (f []) r (w .0) (λ p. Err (NoPlace p))) (committedAt d r (w .0) (f [] (commitLow r (w .0)) (highOf r (w .0))))) room ∙ ap (committedAt d r (w .0)) place)))
@@ -277,14 +283,16 @@ module _ {V : Type 0} (d : V) (q : Register V) (view : RegisterView V) (g : Mean
 
   ---- any
 
-  step : (k : Call V) {e : Operation V V ℕ} → SameCall e (operation k) → AcceptsWith g z view (crewOf k) e → Done (outcome d (f []) r k) (viewAfter top (z .cells) view (crewOf k) e) (meaningAfter g z view (crewOf k) e)
+  step : (k : Call V) {e : Operation V V ℕ} → SameCall e (operation k) → AcceptsWith g z view (crewOf k) e →
+      Done (outcome d (f []) r k) (viewAfter top (z .cells) view (crewOf k) e) (meaningAfter g z view (crewOf k) e)
   step (Open w) open-open sv = step-open w sv
   step (Read w c) (read-read {r = v}) sv = step-read w c v sv
   step (Write w c v) write-write sv = step-write w c v sv
   step (Commit w) (commit-commit {p = p}) sv = step-commit w p sv
   step (Abandon w) (abandon-abandon {p = p}) sv = step-abandon w p sv
 
-  pub performed : (k : Call V) {e : Operation V V ℕ} (a : Result (Answer V) Refusal) (r′ : Register V) (f′ : Meaning) → SameCall e (operation k) → AcceptsWith g z view (crewOf k) e → Performs d r f k a r′ f′ →
+  pub performed : (k : Call V) {e : Operation V V ℕ} (a : Result (Answer V) Refusal) (r′ : Register V) (f′ : Meaning) → SameCall e (operation k) →
+      AcceptsWith g z view (crewOf k) e → Performs d r f k a r′ f′ →
       IsAccepted a × Abreast d q (viewAfter top (z .cells) view (crewOf k) e) (meaningAfter g z view (crewOf k) e) r′ f′
   performed k {e = e} a r′ f′ m sv p =
       let done = step k m sv (r′ .tables .book) (p .enters) in (

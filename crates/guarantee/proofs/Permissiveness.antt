@@ -34,7 +34,8 @@ use Rattle.rules.specs.declared.calls.Call.{Call}
 use Rattle.rules.specs.declared.calls.Call.the-variants.{Abandon, Commit, Open, Read, Write}
 use Rattle.guarantee.specs.Histories.{eventsOf, historyOf, madeBy, operation, operationOf, withOperation}
 use Rattle.guarantee.specs.Opacity.{cellValues}
-use Rattle.guarantee.specs.Permissiveness.{AcceptedCallsHaveAnOrder, AllAccepted, EveryListCanBePerformed, EveryRunAccepts, HasSerializationOrder, IsAccepted, IsOrderOf, IsPermissive, RegisterIsPermissive, RunOf, SomeRunAccepts, WellMadeCalls, scriptBy}
+use Rattle.guarantee.specs.Permissiveness.{AcceptedCallsHaveAnOrder, AllAccepted, EveryListCanBePerformed, EveryRunAccepts, HasSerializationOrder, IsAccepted}
+use Rattle.guarantee.specs.Permissiveness.{IsOrderOf, IsPermissive, RegisterIsPermissive, RunOf, SomeRunAccepts, WellMadeCalls, scriptBy}
 use Rattle.guarantee.specs.RuleFacts.{SoundHead}
 use Rattle.guarantee.proofs.Accepting.{Abreast, performed, sizes-of}
 use Rattle.guarantee.proofs.Invariant.{keeps-on, start-tie}

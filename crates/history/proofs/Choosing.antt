@@ -49,7 +49,8 @@ module _ {V : Type 0} (n : ℕ) (s : RegisterView V) (w : ℕ) where
   cell-below-bound zero c l u q = absurd (omega arith)
   cell-below-bound (suc n) c l u q = go (eqb c (suc n)) refl (cell-below-bound n c l)
     where
-      go : (b : Bool) → eqb c (suc n) ≡ b → (c ≤ n → s .hasWritten w c ≡ true → (s .written c ≤ cellsLowerBound s w n) × (s .read c ≤ cellsLowerBound s w n)) → (s .written c ≤ cellsLowerBound s w (suc n)) × (s .read c ≤ cellsLowerBound s w (suc n))
+      go : (b : Bool) → eqb c (suc n) ≡ b → (c ≤ n → s .hasWritten w c ≡ true → (s .written c ≤ cellsLowerBound s w n) × (s .read c ≤ cellsLowerBound s w n)) →
+          (s .written c ≤ cellsLowerBound s w (suc n)) × (s .read c ≤ cellsLowerBound s w (suc n))
       go true e ih = rw (← eqb-true c (suc n) e, q) (omega arith, omega arith)
       go false e ih = let k = ih (omega (arith, eqb-false c (suc n) e)) q in (omega arith, omega arith)
 
@@ -97,7 +98,8 @@ job-range n m (by w (abandons p) ∷ run) r u a = ended-range m (openJob run u) 
 module _ {V : Type 0} (z : Sizes) (first : ℕ → V) (own : ℕ → ℕ → V) where
   ---- What is accepted with a chooser is accepted at the places that it gave
   module _ (f : Meaning) (law : KeepsLaw f) where
-    with-accepts : (run : History V) (s : RegisterView V) → RunFacts (z .top) (z .cells) first run s → InRange (z .cells) (z .crews) run → (w : ℕ) (d : Operation V V ℕ) → AcceptsWith f z s w d → Accepts (z .top) (z .cells) s w d
+    with-accepts : (run : History V) (s : RegisterView V) → RunFacts (z .top) (z .cells) first run s → InRange (z .cells) (z .crews) run → (w : ℕ) (d : Operation V V ℕ) →
+        AcceptsWith f z s w d → Accepts (z .top) (z .cells) s w d
     with-accepts run s holds r w opens sv = (sv .1, sv .2)
     with-accepts run s holds r w (reads c v) sv = (sv .0 .a-job, sv .2, sv .3)
     with-accepts run s holds r w (writes c v) sv = (sv .0 .a-job, sv .1 .0, sv .1 .1)
@@ -110,7 +112,11 @@ module _ {V : Type 0} (z : Sizes) (first : ℕ → V) (own : ℕ → ℕ → V) 
         cells c q = let i = holds .view-facts .range w c q in let f = cell-below-bound (z .cells) s w (z .cells) c (i .0) (i .1) q in let b = between in (omega arith, omega arith)
 
         crews : (u : ℕ) → (u ≡ w → ⊥) → 1 ≤ s .job u → conflicts s w u (z .cells) ≡ true → s .low u + 1 < p
-        crews u ne j q = let i = job-range (z .cells) (z .crews) run r u (rw (← holds .view-facts .job-is u) j) in let f = reader-below-bound (z .cells) s w (z .crews) u (i .0) (i .1) (reader-yes (z .cells) s w u ne j q) in let b = between in omega arith
+        crews u ne j q =
+            let i = job-range (z .cells) (z .crews) run r u (rw (← holds .view-facts .job-is u) j) in
+            let f = reader-below-bound (z .cells) s w (z .crews) u (i .0) (i .1) (reader-yes (z .cells) s w u ne j q) in
+            let b = between in
+            omega arith
     with-accepts run s holds r w (abandons p) sv = let b = law .between [] (s .low w) (s .high w) (sv .0 .room) in (sv .0 .a-job, rw (sv .1) (b .0), rw (sv .1) (b .1))
 
     with-in-range : (run : History V) (s : RegisterView V) → InRange (z .cells) (z .crews) run → (w : ℕ) (d : Operation V V ℕ) → AcceptsWith f z s w d → InRange (z .cells) (z .crews) (by w d ∷ run)
@@ -174,7 +180,9 @@ module _ {V : Type 0} (z : Sizes) (first : ℕ → V) (own : ℕ → ℕ → V) 
   at-work : (run : History V) (s : RegisterView V) → RunFacts (z .top) (z .cells) first run s → ((u : ℕ) → s .high u ≤ z .top) → (w : ℕ) → UpTo (z .crews) w → 1 ≤ s .job w → AtWork z s w
   at-work run s holds hb w c j = record { a-crew = c; a-job = j; room = holds .view-facts .room w (rw (← holds .view-facts .job-is w) j); below-top = hb w }
 
-  accepts-by-script : (run : History V) (s : RegisterView V) → RunFacts (z .top) (z .cells) first run s → ((u : ℕ) → s .high u ≤ z .top) → (w : ℕ) (d : Operation V V ℕ) → Accepts (z .top) (z .cells) s w d → InRange (z .cells) (z .crews) (by w d ∷ run) → openings (by w d ∷ run) ≤ z .entries → ByScript run s → ByScript (by w d ∷ run) (viewAfter (z .top) (z .cells) s w d)
+  accepts-by-script : (run : History V) (s : RegisterView V) → RunFacts (z .top) (z .cells) first run s → ((u : ℕ) → s .high u ≤ z .top) → (w : ℕ) (d : Operation V V ℕ) →
+      Accepts (z .top) (z .cells) s w d → InRange (z .cells) (z .crews) (by w d ∷ run) → openings (by w d ∷ run) ≤ z .entries → ByScript run s →
+      ByScript (by w d ∷ run) (viewAfter (z .top) (z .cells) s w d)
   accepts-by-script run s holds hb w opens ac r f ih qs = RunWith.goes-on (ih qs) (r .0, ac .0, ac .1, rw (holds .view-facts .opened-is) f)
   accepts-by-script run s holds hb w (reads c v) ac r f ih qs = RunWith.goes-on (ih qs) (at-work run s holds hb w (r .0) (ac .0), r .1, ac .1, ac .2)
   accepts-by-script run s holds hb w (writes c v) ac r f ih qs = RunWith.goes-on (ih qs) (at-work run s holds hb w (r .0) (ac .0), r .1)
@@ -193,9 +201,11 @@ module _ {V : Type 0} (z : Sizes) (first : ℕ → V) (own : ℕ → ℕ → V) 
 
   view-run-by-script : {run : History V} {s : RegisterView V} → ViewRun (z .top) (z .cells) first own run s → InRange (z .cells) (z .crews) run → openings run ≤ z .entries → ByScript run s
   view-run-by-script ViewRun.starts r f = λ qs. RunWith.starts
-  view-run-by-script (ViewRun.goes-on {run = run} {s = s} {w = w} {o = d} g ac) r f = accepts-by-script run s (run-facts (z .top) (z .cells) first own g) (high-below g) w d ac r f (view-run-by-script g (range-tail w d run r) (omega (arith, openings-tail w d run, f)))
+  view-run-by-script (ViewRun.goes-on {run = run} {s = s} {w = w} {o = d} g ac) r f =
+      accepts-by-script run s (run-facts (z .top) (z .cells) first own g) (high-below g) w d ac r f (view-run-by-script g (range-tail w d run r) (omega (arith, openings-tail w d run, f)))
 
-  pub positions-script : (cs : Calls V) → z .entries + 2 ≤ z .top → WellMadeList (z .cells) (z .crews) (z .entries) cs → (row : List ℕ) → SerializationOrder (byJobs cs) row → AcceptedWith (scriptMeaning (reverse (positions (position row) cs))) z first own cs
+  pub positions-script : (cs : Calls V) → z .entries + 2 ≤ z .top → WellMadeList (z .cells) (z .crews) (z .entries) cs → (row : List ℕ) →
+      SerializationOrder (byJobs cs) row → AcceptedWith (scriptMeaning (reverse (positions (position row) cs))) z first own cs
   positions-script cs t wl row l =
       let a = positions-accepted first own (z .top) (z .cells) (z .crews) (z .entries) cs t wl row l in
       let k = subst (λ y. Alike (a .run) y) (a .same-calls) (calls-alike (a .run)) in

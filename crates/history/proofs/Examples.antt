@@ -57,10 +57,13 @@ unwritten-2 w = go (w .occurs)
     go (later (later (later s))) = elim s [ ]
 
 crossed-12 : Precedes (byJobs crossedReads) 1 2
-crossed-12 = read-committed {c = 1} here (record { value = 6; before = _; occurs = later here }) (record { value = tt; before = opened; occurs = later (later (later (later here))); unwritten = unwritten-1 })
+crossed-12 =
+    read-committed {c = 1} here (record { value = 6; before = _; occurs = later here }) (record { value = tt; before = opened; occurs = later (later (later (later here))); unwritten = unwritten-1 })
 
 crossed-21 : Precedes (byJobs crossedReads) 2 1
-crossed-21 = read-committed {c = 2} (later here) (record { value = 5; before = _; occurs = later here }) (record { value = tt; before = by 1 (reads 1 tt) ∷ opened; occurs = later (later here); unwritten = unwritten-2 })
+crossed-21 =
+    read-committed {c = 2} (later here) (record { value = 5; before = _; occurs = later here })
+    (record { value = tt; before = by 1 (reads 1 tt) ∷ opened; occurs = later (later here); unwritten = unwritten-2 })
 
 pub crossed-reads : CrossedReadsHaveNoOrder
 crossed-reads = record {
@@ -249,7 +252,9 @@ skew-12 : Precedes (byJobs readSkew) 1 2
 skew-12 = committed-read {c = 2} here (λ w. unwritten-by-two (w .occurs)) (record { place = 5; before = _; occurs = here; wrote = record { value = 25; before = _; occurs = here } })
 
 skew-21 : Precedes (byJobs readSkew) 2 1
-skew-21 = read-committed {c = 1} (later here) (record { value = 15; before = _; occurs = later here }) (record { value = 10; before = _; occurs = later (later here); unwritten = λ w. unwritten-at-first (w .occurs) })
+skew-21 =
+    read-committed {c = 1} (later here) (record { value = 15; before = _; occurs = later here })
+    (record { value = 10; before = _; occurs = later (later here); unwritten = λ w. unwritten-at-first (w .occurs) })
 
 pub read-skew : ReadSkewIsNotExplained
 read-skew = record {
