@@ -8,7 +8,7 @@ use lib.Dec.{eqb, ltb}
 use lib.ListN.{length}
 use Rattle.std.proofs.shelf.Tests.{eq-eqb, ne-eqb, le-ltb, or-from, not-from-true, ltb-true, cond-both}
 use Rattle.std.specs.declared.option.Option.{Option}
-use Rattle.std.specs.declared.option.Option.the-variants.{Some, None}
+use Rattle.std.specs.declared.option.Option.the-variants.{None}
 use Rattle.std.specs.declared.result.Result.{Result}
 use Rattle.std.specs.declared.result.Result.the-variants.{Ok, Err}
 use Rattle.terms.specs.declared.numbers.CellNumber.{CellNumber}
@@ -124,7 +124,12 @@ module _ {V : Type 0} (d : V) (q : Register V) (view : RegisterView V) (g : Mean
       let t = ab .tie .job-is w (s .from-one) (s .to-crews) in
       let h = tied-by-job (hasJob r w) (recordOf r w) (view .job w) (view .low w) (view .high w) t (k .a-job) in
       let o = of-open d r view (ab .tie) w s h in
-      record { has = h; room = omega (arith, o .2, o .3, k .room); under-top = omega (arith, o .3, k .below-top); counted = rw (ab .tie .active-is) (busy-at (view .job) w (r .head .sizes .crews) (s .from-one) (s .to-crews) (k .a-job)) }
+      record {
+        has = h;
+        room = omega (arith, o .2, o .3, k .room);
+        under-top = omega (arith, o .3, k .below-top);
+        counted = rw (ab .tie .active-is) (busy-at (view .job) w (r .head .sizes .crews) (s .from-one) (s .to-crews) (k .a-job));
+      }
 
   -- a call of an open job passes the tests
   passes-work : (k : Call V) → isOpening k ≡ false → wrongCell (r .head .sizes .cells) k ≡ false → AtWork z view (crewOf k) → outcome d (f []) r k ≡ accepted d (f []) r k
@@ -153,7 +158,9 @@ module _ {V : Type 0} (d : V) (q : Register V) (view : RegisterView V) (g : Mean
       let s = sized (w .0) (sv .0) in
       let h = closed-job (hasJob r (w .0)) (recordOf r (w .0)) (view .job (w .0)) (view .low (w .0)) (view .high (w .0)) (ab .tie .job-is (w .0) (s .from-one) (s .to-crews)) (sv .1) in
       subst (λ (o : Outcome V). Done o (viewAfter top (z .cells) view (w .0) opens) g)
-      (sym (passes (Open w) (within (r .head .sizes .crews) (w .0) (s .from-one) (s .to-crews)) refl h refl refl (le-ltb top (r .head .highest + 2) (omega (arith, ab .tie .highest-is, sv .2))) (ne-eqb (r .head .ended + r .head .active) (r .head .sizes .entries) (λ e. omega (arith, ab .tie .opened-is, b-is, sv .3)))))
+      (sym (passes (Open w) (within (r .head .sizes .crews) (w .0) (s .from-one) (s .to-crews)) refl h refl refl
+      (le-ltb top (r .head .highest + 2) (omega (arith, ab .tie .highest-is, sv .2)))
+      (ne-eqb (r .head .ended + r .head .active) (r .head .sizes .entries) (λ e. omega (arith, ab .tie .opened-is, b-is, sv .3)))))
       (done-open (w .0) (sv .0) h)
 
   ---- read
@@ -218,7 +225,8 @@ module _ {V : Type 0} (d : V) (q : Register V) (view : RegisterView V) (g : Mean
       Done (outcome d (f []) r (Write w c v)) (viewAfter top (z .cells) view (w .0) (writes (c .0) v)) g
   step-write w c v sv =
       let in-n : c .0 ≤ r .head .sizes .cells = rw (n-is) (sv .1 .1) in
-      subst (λ (o : Outcome V). Done o (viewAfter top (z .cells) view (w .0) (writes (c .0) v)) g) (sym (passes-work (Write w c v) refl (within (r .head .sizes .cells) (c .0) (sv .1 .0) in-n) (sv .0)))
+      subst (λ (o : Outcome V). Done o (viewAfter top (z .cells) view (w .0) (writes (c .0) v)) g)
+      (sym (passes-work (Write w c v) refl (within (r .head .sizes .cells) (c .0) (sv .1 .0) in-n) (sv .0)))
       (done-write (w .0) (c .0) v (sv .0 .a-crew) (sv .1 .0) in-n)
 
   ---- endings
@@ -233,7 +241,8 @@ module _ {V : Type 0} (d : V) (q : Register V) (view : RegisterView V) (g : Mean
   done-abandon w p k bk i = let s = sized w (k .a-crew) in (
     tt,
     record {
-      tie = tie-book d (abandonedAt r w (λ p. Ok (Ended p)) p .left) bk _ (i .same-length) (tied (abandonedAt r w (λ p. Ok (Ended p)) p .left) w (abandons p) (tie-abandon d r view (ab .tie) w s p (λ p. Ok (Ended p)) (working w k)));
+      tie = tie-book d (abandonedAt r w (λ p. Ok (Ended p)) p .left) bk _ (i .same-length)
+          (tied (abandonedAt r w (λ p. Ok (Ended p)) p .left) w (abandons p) (tie-abandon d r view (ab .tie) w s p (λ p. Ok (Ended p)) (working w k)));
       same-sizes = ab .same-sizes;
       means = moved-means (lowOf r w) (highOf r w);
     },
@@ -243,7 +252,8 @@ module _ {V : Type 0} (d : V) (q : Register V) (view : RegisterView V) (g : Mean
       Done (outcome d (f []) r (Abandon w)) (viewAfter top (z .cells) view (w .0) (abandons p)) (movedOn g (view .low (w .0)) (view .high (w .0)))
   step-abandon w p sv =
       subst₂ (λ (l h : ℕ). Done (outcome d (f []) r (Abandon w)) (viewAfter top (z .cells) view (w .0) (abandons p)) (movedOn g l h)) (sym (o .2)) (sym (o .3))
-      (subst (λ (o : Outcome V). Done o (viewAfter top (z .cells) view (w .0) (abandons p)) (movedOn g (lowOf r (w .0)) (highOf r (w .0)))) (sym (passes-work (Abandon w) refl refl (sv .0) ∙ ap (abandonedAt r (w .0) (λ p. Ok (Ended p))) place))
+      (subst (λ (o : Outcome V). Done o (viewAfter top (z .cells) view (w .0) (abandons p)) (movedOn g (lowOf r (w .0)) (highOf r (w .0))))
+      (sym (passes-work (Abandon w) refl refl (sv .0) ∙ ap (abandonedAt r (w .0) (λ p. Ok (Ended p))) place))
       (done-abandon (w .0) p (sv .0)))
     where
       o : (view .job (w .0) ≡ jobNumber r (w .0)) × (1 ≤ view .job (w .0)) × (view .low (w .0) ≡ lowOf r (w .0)) × (view .high (w .0) ≡ highOf r (w .0))
@@ -266,7 +276,7 @@ module _ {V : Type 0} (d : V) (q : Register V) (view : RegisterView V) (g : Mean
       Done (outcome d (f []) r (Commit w)) (viewAfter top (z .cells) view (w .0) (commits p)) (movedOn g (commitLowerBound (z .cells) (z .crews) view (w .0)) (view .high (w .0)))
   step-commit w p sv =
       subst₂ (λ (l h : ℕ). Done (outcome d (f []) r (Commit w)) (viewAfter top (z .cells) view (w .0) (commits p)) (movedOn g l h)) (sym fl) (sym (o .3))
-      (subst (λ (o : Outcome V). Done o (viewAfter top (z .cells) view (w .0) (commits p)) (movedOn g (commitLow r (w .0)) (highOf r (w .0)))) (sym (passes-work (Commit w) refl refl (sv .0) ∙ (ap (λ (t : Bool). cond t (abandonOutcome (f []) r (w .0) (λ p. Err (NoPlace p))) (committedAt d r (w .0) (f [] (commitLow r (w .0)) (highOf r (w .0))))) room ∙ ap (committedAt d r (w .0)) place)))
+      (subst (λ (o : Outcome V). Done o (viewAfter top (z .cells) view (w .0) (commits p)) (movedOn g (commitLow r (w .0)) (highOf r (w .0)))) (sym (passes-work (Commit w) refl refl (sv .0) ∙ (with-room ∙ ap (committedAt d r (w .0)) place)))
       (done-commit (w .0) p (sv .0)))
     where
       o : (view .job (w .0) ≡ jobNumber r (w .0)) × (1 ≤ view .job (w .0)) × (view .low (w .0) ≡ lowOf r (w .0)) × (view .high (w .0) ≡ highOf r (w .0))
@@ -277,6 +287,9 @@ module _ {V : Type 0} (d : V) (q : Register V) (view : RegisterView V) (g : Mean
 
       room : ltb (highOf r (w .0)) (commitLow r (w .0) + 2) ≡ false
       room = le-ltb (highOf r (w .0)) (commitLow r (w .0) + 2) (omega (arith, fl, o .3, sv .1))
+
+      with-room : accepted d (f []) r (Commit w) ≡ committedAt d r (w .0) (f [] (commitLow r (w .0)) (highOf r (w .0)))
+      with-room = ap (λ (t : Bool). cond t (abandonOutcome (f []) r (w .0) (λ p. Err (NoPlace p))) (committedAt d r (w .0) (f [] (commitLow r (w .0)) (highOf r (w .0))))) room
 
       place : f [] (commitLow r (w .0)) (highOf r (w .0)) ≡ p
       place = picks (commitLow r (w .0)) (highOf r (w .0)) ∙ sym (sv .2 ∙ ap₂ (g []) fl (o .3))

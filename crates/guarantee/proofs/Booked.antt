@@ -88,7 +88,11 @@ module _ {V : Type 0} where
   names-still : (run : History V) (w : ℕ) (d : Operation V V ℕ) → WellMade (by w d ∷ run) → (e : Entry) → Names run e → Names (by w d ∷ run) e
   names-still run w d wm e n =
       let s = projection-still run w d wm (e .job .0) (e .place .0) (n .place-is) in
-      record { crew-is = crew-still run w d (e .job .0) (not-acting run w d wm (e .job .0) (e .place .0) (n .place-is)) ∙ n .crew-is; place-is = ap endPlace s ∙ n .place-is; ending-is = ap isCommitted s ∙ n .ending-is }
+      record {
+        crew-is = crew-still run w d (e .job .0) (not-acting run w d wm (e .job .0) (e .place .0) (n .place-is)) ∙ n .crew-is;
+        place-is = ap endPlace s ∙ n .place-is;
+        ending-is = ap isCommitted s ∙ n .ending-is;
+      }
 
   ---- an operation that ends no job
 

@@ -324,7 +324,10 @@ order-explains d s log r f inv = (
     serialization-order = w-order d s (historyOf log) r f inv;
     day-book-order = w-ended d s (historyOf log) r f inv;
     real-time = real-time d s (historyOf log) r f inv;
-    explains = record { told-the-same = w-done d s (historyOf log) r f inv .same-observed; left-the-same = held d s (historyOf log) r f inv (whole d s (historyOf log) r f inv) (w-done d s (historyOf log) r f inv) };
+    explains = record {
+      told-the-same = w-done d s (historyOf log) r f inv .same-observed;
+      left-the-same = held d s (historyOf log) r f inv (whole d s (historyOf log) r f inv) (w-done d s (historyOf log) r f inv);
+    };
   },
 )
 

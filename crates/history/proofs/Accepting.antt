@@ -332,7 +332,14 @@ module _ {V : Type 0} (top n m : ℕ) (first : ℕ → V) (own : ℕ → ℕ →
   accepted-so-far : (cs : Calls V) → WellMade cs → InRange n m cs → RisingPlaces top at cs → AcceptedSoFar cs
   accepted-so-far [] wm r f = record {
     accepted = record { run = []; view = freshView first own; same-calls = refl; same-places = refl; view-run = starts };
-    fits = record { low-is = λ w a. absurd (omega arith); high-is = λ w a. absurd (omega arith); written-is = λ c. inl refl; read-is = λ c. inl refl; highest-is = inl refl; flag-is = λ w c q. absurd (both-ways false refl q) };
+    fits = record {
+      low-is = λ w a. absurd (omega arith);
+      high-is = λ w a. absurd (omega arith);
+      written-is = λ c. inl refl;
+      read-is = λ c. inl refl;
+      highest-is = inl refl;
+      flag-is = λ w c q. absurd (both-ways false refl q);
+    };
   }
   accepted-so-far (by w opens ∷ cs) wm r f =
       let g = accepted-so-far cs (wm .1) (r .2) (rising-tail top at w opens cs f) in

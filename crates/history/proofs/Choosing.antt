@@ -5,8 +5,8 @@ use mathlib.Core.Bool.{Bool, true, false, cond, not, _&&_}
 use mathlib.Core.Logic.{_↔_}
 use Prim.Native.Nat.{ℕ, zero, suc, _+_, _≤_, _<_, min, max}
 use native.Mathlib.Omega.{arith}
-use lib.Dec.{eqb, leb, ltb}
-use Rattle.std.proofs.shelf.Tests.{eqb-true, eqb-false, ne-eqb, both-ways, leb-true, le-leb, le-ltb, lt-ltb, ltb-true, and-parts, and-from}
+use lib.Dec.{eqb, leb}
+use Rattle.std.proofs.shelf.Tests.{eqb-true, eqb-false, ne-eqb, both-ways, leb-true, le-leb, le-ltb, lt-ltb, and-parts}
 use Rattle.choosers.specs.Meaning.{Meaning, KeepsLaw, movedOn}
 use Rattle.choosers.specs.Script.{scriptMeaning}
 use Rattle.choosers.specs.Lawful.{script-lawful}
@@ -187,7 +187,9 @@ module _ {V : Type 0} (z : Sizes) (first : ℕ → V) (own : ℕ → ℕ → V) 
   accepts-by-script run s holds hb w (reads c v) ac r f ih qs = RunWith.goes-on (ih qs) (at-work run s holds hb w (r .0) (ac .0), r .1, ac .1, ac .2)
   accepts-by-script run s holds hb w (writes c v) ac r f ih qs = RunWith.goes-on (ih qs) (at-work run s holds hb w (r .0) (ac .0), r .1)
   accepts-by-script run s holds hb w (commits p) ac r f ih qs =
-      let l : commitLowerBound (z .cells) (z .crews) s w < p = omega (arith, ac .1, cells-bound-below (z .cells) s w p (z .cells) (omega (arith, ac .1)) (ac .3), readers-bound-below (z .cells) s w p (z .crews) (omega (arith, ac .1)) (ac .4)) in
+      let cells = cells-bound-below (z .cells) s w p (z .cells) (omega (arith, ac .1)) (ac .3) in
+      let readers = readers-bound-below (z .cells) s w p (z .crews) (omega (arith, ac .1)) (ac .4) in
+      let l : commitLowerBound (z .cells) (z .crews) s w < p = omega (arith, ac .1, cells, readers) in
       subst (λ f. RunWith (scriptMeaning (reverseAux (placesOf run) (p ∷ qs))) z first own (by w (commits p) ∷ run) (viewAfter (z .top) (z .cells) s w (commits p)) f)
       (script-left p qs (commitLowerBound (z .cells) (z .crews) s w) (s .high w) l (ac .2))
       (RunWith.goes-on (ih (p ∷ qs)) (at-work run s holds hb w (r .0) (ac .0), omega (arith, l, ac .2), sym (script-gives p qs (commitLowerBound (z .cells) (z .crews) s w) (s .high w) l (ac .2))))

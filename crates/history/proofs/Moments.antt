@@ -147,7 +147,12 @@ module _ {V : Type 0} where
   first-hand-step y x c h d false e ih f = read-later (by y d) (ih f)
   first-hand-step y x c h opens true e ih f = read-later (by y opens) (ih f)
   first-hand-step y x c h (reads k w) true e ih (inl f) =
-      record { value = w; before = h; occurs = subst (λ k′. Extends (by y (reads k w) ∷ h) (by x (reads k′ w) ∷ h)) (f .0) (occurs-here h (reads k w) y x (eqb-true y x e)); unwritten = unbuffered-unwritten h x c (f .1) }
+      record {
+        value = w;
+        before = h;
+        occurs = subst (λ k′. Extends (by y (reads k w) ∷ h) (by x (reads k′ w) ∷ h)) (f .0) (occurs-here h (reads k w) y x (eqb-true y x e));
+        unwritten = unbuffered-unwritten h x c (f .1);
+      }
   first-hand-step y x c h (reads k w) true e ih (inr f) = read-later (by y (reads k w)) (ih f)
   first-hand-step y x c h (writes k w) true e ih f = read-later (by y (writes k w)) (ih f)
   first-hand-step y x c h (commits p) true e ih f = read-later (by y (commits p)) (ih f)

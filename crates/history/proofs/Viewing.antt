@@ -370,7 +370,16 @@ pub record RunFacts {V : Type 0} (top n : ℕ) (first : ℕ → V) (run : Histor
 
 pub run-facts : {V : Type 0} (top n : ℕ) (first : ℕ → V) (own : ℕ → ℕ → V) {run : History V} {s : RegisterView V} → ViewRun top n first own run s → RunFacts top n first run s
 run-facts top n first own starts = record {
-  view-facts = record { job-is = λ w. refl; opened-is = refl; value-is = λ c. refl; own-is = λ w c a. absurd (omega arith); read-is = λ w c a r. absurd (omega arith); closed-is = λ w c q. refl; range = λ w c q. absurd (both-ways false refl q); room = λ w a. absurd (omega arith) };
+  view-facts = record {
+    job-is = λ w. refl;
+    opened-is = refl;
+    value-is = λ c. refl;
+    own-is = λ w c a. absurd (omega arith);
+    read-is = λ w c a r. absurd (omega arith);
+    closed-is = λ w c q. refl;
+    range = λ w c q. absurd (both-ways false refl q);
+    room = λ w a. absurd (omega arith);
+  };
   well-made = tt;
   reads-current = tt;
 }

@@ -1,4 +1,4 @@
--- Lists of calls that a register accepts whole: at the places of a script, and with a chooser that is asked for each place.
+-- Lists of calls that a register accepts whole: at given places, and with a chooser that is asked for each place.
 use mathlib.Core.Path.{_≡_}
 use mathlib.Core.List.{List, [], _∷_}
 use mathlib.Core.Bool.{Bool, cond, not, _&&_}
