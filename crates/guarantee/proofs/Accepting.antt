@@ -8,7 +8,7 @@ use lib.Dec.{eqb, ltb}
 use lib.ListN.{length}
 use Rattle.std.proofs.shelf.Tests.{eq-eqb, ne-eqb, le-ltb, or-from, not-from-true, ltb-true, cond-both}
 use Rattle.std.specs.declared.option.Option.{Option}
-use Rattle.std.specs.declared.option.Option.the-variants.{Some, None}
+use Rattle.std.specs.declared.option.Option.the-variants.{None}
 use Rattle.std.specs.declared.result.Result.{Result}
 use Rattle.std.specs.declared.result.Result.the-variants.{Ok, Err}
 use Rattle.terms.specs.declared.numbers.CellNumber.{CellNumber}
@@ -16,9 +16,8 @@ use Rattle.terms.specs.declared.numbers.CrewNumber.{CrewNumber}
 use Rattle.terms.specs.declared.records.Entry.{Entry}
 use Rattle.terms.specs.declared.refusals.Refusal.{Refusal}
 use Rattle.terms.specs.declared.refusals.Refusal.the-variants.{NoPlace}
-use Rattle.choosers.specs.Meaning.{Meaning}
-use Rattle.choosers.specs.Script.{scriptMeaning}
-use Rattle.history.specs.Acceptance.{AcceptsWith, AtWork, Sizes, chooserAfter, commitLowerBound, scriptChooser}
+use Rattle.choosers.specs.Meaning.{Meaning, movedOn}
+use Rattle.history.specs.Acceptance.{AcceptsWith, AtWork, Sizes, commitLowerBound, meaningAfter}
 use Rattle.history.specs.Events.{Operation}
 use Rattle.history.specs.Events.Operation.{abandons, commits, opens, reads, writes}
 use Rattle.history.specs.Views.{RegisterView, viewAfter}
@@ -26,7 +25,8 @@ use Rattle.history.specs.WellMade.{UpTo}
 use Rattle.history.proofs.Alike.{SameCall}
 use Rattle.history.proofs.Alike.SameCall.{abandon-abandon, commit-commit, open-open, read-read, write-write}
 use Rattle.rules.specs.Heads.{Dimensions}
-use Rattle.rules.specs.JobCalls.{Outcome, abandonOutcome, abandonedAt, accepted, commitLow, committedAt, crewOf, damaged, isOpening, openOutcome, outcome, raisedLow, readCell, readOwn, refused, testsOf, writeOutcome, wrongCell}
+use Rattle.rules.specs.JobCalls.{Outcome, abandonOutcome, abandonedAt, accepted, commitLow, committedAt, crewOf, damaged, isOpening}
+use Rattle.rules.specs.JobCalls.{openOutcome, outcome, raisedLow, readCell, readOwn, refused, testsOf, writeOutcome, wrongCell}
 use Rattle.rules.specs.Limits.{top}
 use Rattle.rules.specs.Performing.{Entered, Performs, movedIf, withBook}
 use Rattle.rules.specs.Refusing.{Tests, firstRefusal, ifRefused}
@@ -43,17 +43,16 @@ use Rattle.guarantee.proofs.Counting.{busy-at}
 use Rattle.guarantee.proofs.Invariant.{tie-book}
 use Rattle.guarantee.proofs.Opacity.{b}
 use Rattle.guarantee.proofs.Passing.{None-of, Sized, Working, not-damaged}
-use Rattle.guarantee.proofs.Scripts.{gives-same, next-same}
 use Rattle.guarantee.proofs.Tied.{Tie, Tied, of-open, tie-abandon, tie-cell, tie-commit, tie-open, tie-own, tie-write, tied-by-job}
 
 abbrev pub sizes-of : {V : Type 0} → Register V → Sizes
 sizes-of s = record { top = top; cells = s .head .sizes .cells; crews = s .head .sizes .crews; entries = s .head .sizes .entries }
 
--- the register r, with a chooser that means f, against a view and what is left of the script
-pub record Abreast {V : Type 0} (d : V) (s : Register V) (view : RegisterView V) (xs : List ℕ) (r : Register V) (f : Meaning) : Type 0 where
+-- the register r, with a chooser that means f, against a view with one that means g: the same
+pub record Abreast {V : Type 0} (d : V) (s : Register V) (view : RegisterView V) (g : Meaning) (r : Register V) (f : Meaning) : Type 0 where
   pub tie : Tie d r view
   pub same-sizes : r .head .sizes ≡ s .head .sizes
-  pub means : f ≡ scriptMeaning xs
+  pub means : f ≡ g
 
 none-refused : (ts : Tests) → None-of ts → firstRefusal ts ≡ None
 none-refused [] ns = refl
@@ -69,7 +68,7 @@ closed-job : (b : Bool) (j : _) (x l h : ℕ) → Tied b j x l h → x ≡ 0 →
 closed-job true j x l h t e = absurd (omega (arith, t .1))
 closed-job false j x l h t e = refl
 
-module _ {V : Type 0} (d : V) (q : Register V) (view : RegisterView V) (xs : List ℕ) (r : Register V) (f : Meaning) (ab : Abreast d q view xs r f) where
+module _ {V : Type 0} (d : V) (q : Register V) (view : RegisterView V) (g : Meaning) (r : Register V) (f : Meaning) (ab : Abreast d q view g r f) where
   abbrev z : Sizes
   z = sizes-of q
 
@@ -83,12 +82,13 @@ module _ {V : Type 0} (d : V) (q : Register V) (view : RegisterView V) (xs : Lis
   b-is = ap (λ (sizes : Dimensions). sizes .entries) (ab .same-sizes)
 
   -- what follows from an outcome
-  abbrev Done : Outcome V → RegisterView V → List ℕ → Type 0
-  Done o view′ ys = (bk : List Entry) → Entered (r .head .ended) (o .entry) (r .tables .book) bk → IsAccepted (o .answer) × Abreast d q view′ ys (withBook (o .left) bk) (movedIf f (o .asked))
+  abbrev Done : Outcome V → RegisterView V → Meaning → Type 0
+  Done o view′ g′ = (bk : List Entry) → Entered (r .head .ended) (o .entry) (r .tables .book) bk → IsAccepted (o .answer) × Abreast d q view′ g′ (withBook (o .left) bk) (movedIf f (o .asked))
 
-  passes : (k : Call V) → outside (r .head .sizes .crews) (crewOf k) ≡ false → wrongCell (r .head .sizes .cells) k ≡ false → (isOpening k && hasJob r (crewOf k)) ≡ false → (not (isOpening k) && not (hasJob r (crewOf k))) ≡ false → (not (isOpening k) && damaged r (crewOf k)) ≡ false →
+  passes : (k : Call V) → outside (r .head .sizes .crews) (crewOf k) ≡ false → wrongCell (r .head .sizes .cells) k ≡ false →
+      (isOpening k && hasJob r (crewOf k)) ≡ false → (not (isOpening k) && not (hasJob r (crewOf k))) ≡ false → (not (isOpening k) && damaged r (crewOf k)) ≡ false →
       (isOpening k && ltb top (r .head .highest + 2)) ≡ false → (isOpening k && eqb (r .head .ended + r .head .active) (r .head .sizes .entries)) ≡ false → outcome d (f []) r k ≡ accepted d (f []) r k
-  passes k a b c e g h i = ap (λ (o : Option Refusal). ifRefused o (λ e. refused e r) (accepted d (f []) r k)) (none-refused (testsOf r k) (
+  passes k a b c e u v w = ap (λ (o : Option Refusal). ifRefused o (λ e. refused e r) (accepted d (f []) r k)) (none-refused (testsOf r k) (
     size-passes _ _ (ab .tie .fits .values),
     (
       size-passes _ _ (ab .tie .fits .written),
@@ -102,7 +102,7 @@ module _ {V : Type 0} (d : V) (q : Register V) (view : RegisterView V) (xs : Lis
               size-passes _ _ (ab .tie .fits .flags),
               (
                 size-passes _ _ (ab .tie .fits .book),
-                (a, (b, (c, (e, (g, (h, (i, tt))))))),
+                (a, (b, (c, (e, (u, (v, (w, tt))))))),
               ),
             ),
           ),
@@ -124,7 +124,12 @@ module _ {V : Type 0} (d : V) (q : Register V) (view : RegisterView V) (xs : Lis
       let t = ab .tie .job-is w (s .from-one) (s .to-crews) in
       let h = tied-by-job (hasJob r w) (recordOf r w) (view .job w) (view .low w) (view .high w) t (k .a-job) in
       let o = of-open d r view (ab .tie) w s h in
-      record { has = h; room = omega (arith, o .2, o .3, k .room); under-top = omega (arith, o .3, k .below-top); counted = rw (ab .tie .active-is) (busy-at (view .job) w (r .head .sizes .crews) (s .from-one) (s .to-crews) (k .a-job)) }
+      record {
+        has = h;
+        room = omega (arith, o .2, o .3, k .room);
+        under-top = omega (arith, o .3, k .below-top);
+        counted = rw (ab .tie .active-is) (busy-at (view .job) w (r .head .sizes .crews) (s .from-one) (s .to-crews) (k .a-job));
+      }
 
   -- a call of an open job passes the tests
   passes-work : (k : Call V) → isOpening k ≡ false → wrongCell (r .head .sizes .cells) k ≡ false → AtWork z view (crewOf k) → outcome d (f []) r k ≡ accepted d (f []) r k
@@ -138,7 +143,7 @@ module _ {V : Type 0} (d : V) (q : Register V) (view : RegisterView V) (xs : Lis
 
   ---- open
 
-  done-open : (w : ℕ) → UpTo (z .crews) w → hasJob r w ≡ false → Done (openOutcome r w) (viewAfter top (z .cells) view w opens) xs
+  done-open : (w : ℕ) → UpTo (z .crews) w → hasJob r w ≡ false → Done (openOutcome r w) (viewAfter top (z .cells) view w opens) g
   done-open w u j bk b = (
     tt,
     record {
@@ -148,17 +153,19 @@ module _ {V : Type 0} (d : V) (q : Register V) (view : RegisterView V) (xs : Lis
     },
   )
 
-  step-open : (w : CrewNumber) → AcceptsWith scriptChooser z xs view (w .0) opens → Done (outcome d (f []) r (Open w)) (viewAfter top (z .cells) view (w .0) opens) xs
+  step-open : (w : CrewNumber) → AcceptsWith g z view (w .0) opens → Done (outcome d (f []) r (Open w)) (viewAfter top (z .cells) view (w .0) opens) g
   step-open w sv =
       let s = sized (w .0) (sv .0) in
       let h = closed-job (hasJob r (w .0)) (recordOf r (w .0)) (view .job (w .0)) (view .low (w .0)) (view .high (w .0)) (ab .tie .job-is (w .0) (s .from-one) (s .to-crews)) (sv .1) in
-      subst (λ (o : Outcome V). Done o (viewAfter top (z .cells) view (w .0) opens) xs)
-      (sym (passes (Open w) (within (r .head .sizes .crews) (w .0) (s .from-one) (s .to-crews)) refl h refl refl (le-ltb top (r .head .highest + 2) (omega (arith, ab .tie .highest-is, sv .2))) (ne-eqb (r .head .ended + r .head .active) (r .head .sizes .entries) (λ e. omega (arith, ab .tie .opened-is, b-is, sv .3)))))
+      subst (λ (o : Outcome V). Done o (viewAfter top (z .cells) view (w .0) opens) g)
+      (sym (passes (Open w) (within (r .head .sizes .crews) (w .0) (s .from-one) (s .to-crews)) refl h refl refl
+      (le-ltb top (r .head .highest + 2) (omega (arith, ab .tie .highest-is, sv .2)))
+      (ne-eqb (r .head .ended + r .head .active) (r .head .sizes .entries) (λ e. omega (arith, ab .tie .opened-is, b-is, sv .3)))))
       (done-open (w .0) (sv .0) h)
 
   ---- read
 
-  done-own : (w c : ℕ) (v : V) → UpTo (z .crews) w → 1 ≤ c → c ≤ r .head .sizes .cells → hasWritten r w c ≡ true → Done (readOwn d r w c) (viewAfter top (z .cells) view w (reads c v)) xs
+  done-own : (w c : ℕ) (v : V) → UpTo (z .crews) w → 1 ≤ c → c ≤ r .head .sizes .cells → hasWritten r w c ≡ true → Done (readOwn d r w c) (viewAfter top (z .cells) view w (reads c v)) g
   done-own w c v u a b e bk q = (
     tt,
     record {
@@ -168,7 +175,8 @@ module _ {V : Type 0} (d : V) (q : Register V) (view : RegisterView V) (xs : Lis
     },
   )
 
-  done-cell : (w c : ℕ) (v : V) → UpTo (z .crews) w → Working r w → 1 ≤ c → c ≤ r .head .sizes .cells → hasWritten r w c ≡ false → Done (readCell d r w c) (viewAfter top (z .cells) view w (reads c v)) xs
+  done-cell : (w c : ℕ) (v : V) → UpTo (z .crews) w → Working r w → 1 ≤ c → c ≤ r .head .sizes .cells → hasWritten r w c ≡ false →
+      Done (readCell d r w c) (viewAfter top (z .cells) view w (reads c v)) g
   done-cell w c v u wk a b e bk q = (
     tt,
     record {
@@ -178,7 +186,7 @@ module _ {V : Type 0} (d : V) (q : Register V) (view : RegisterView V) (xs : Lis
     },
   )
 
-  step-read : (w : CrewNumber) (c : CellNumber) (v : V) → AcceptsWith scriptChooser z xs view (w .0) (reads (c .0) v) → Done (outcome d (f []) r (Read w c)) (viewAfter top (z .cells) view (w .0) (reads (c .0) v)) xs
+  step-read : (w : CrewNumber) (c : CellNumber) (v : V) → AcceptsWith g z view (w .0) (reads (c .0) v) → Done (outcome d (f []) r (Read w c)) (viewAfter top (z .cells) view (w .0) (reads (c .0) v)) g
   step-read w c v sv = subst G (sym (passes-work (Read w c) refl (within (r .head .sizes .cells) (c .0) (sv .1 .0) in-n) (sv .0)))
       (cond-both (hasWritten r (w .0) (c .0)) _ _ G
       (λ e. done-own (w .0) (c .0) v (sv .0 .a-crew) (sv .1 .0) in-n e)
@@ -187,7 +195,7 @@ module _ {V : Type 0} (d : V) (q : Register V) (view : RegisterView V) (xs : Lis
       (λ l. done-cell (w .0) (c .0) v (sv .0 .a-crew) wk (sv .1 .0) in-n e)))
     where
       G : Outcome V → Type 0
-      G = λ o. Done o (viewAfter top (z .cells) view (w .0) (reads (c .0) v)) xs
+      G = λ o. Done o (viewAfter top (z .cells) view (w .0) (reads (c .0) v)) g
 
       in-n : c .0 ≤ r .head .sizes .cells
       in-n = rw (n-is) (sv .1 .1)
@@ -203,7 +211,7 @@ module _ {V : Type 0} (d : V) (q : Register V) (view : RegisterView V) (xs : Lis
 
   ---- write
 
-  done-write : (w c : ℕ) (v : V) → UpTo (z .crews) w → 1 ≤ c → c ≤ r .head .sizes .cells → Done (writeOutcome r w c v) (viewAfter top (z .cells) view w (writes c v)) xs
+  done-write : (w c : ℕ) (v : V) → UpTo (z .crews) w → 1 ≤ c → c ≤ r .head .sizes .cells → Done (writeOutcome r w c v) (viewAfter top (z .cells) view w (writes c v)) g
   done-write w c v u a b bk q = (
     tt,
     record {
@@ -213,43 +221,48 @@ module _ {V : Type 0} (d : V) (q : Register V) (view : RegisterView V) (xs : Lis
     },
   )
 
-  step-write : (w : CrewNumber) (c : CellNumber) (v : V) → AcceptsWith scriptChooser z xs view (w .0) (writes (c .0) v) → Done (outcome d (f []) r (Write w c v)) (viewAfter top (z .cells) view (w .0) (writes (c .0) v)) xs
+  step-write : (w : CrewNumber) (c : CellNumber) (v : V) → AcceptsWith g z view (w .0) (writes (c .0) v) →
+      Done (outcome d (f []) r (Write w c v)) (viewAfter top (z .cells) view (w .0) (writes (c .0) v)) g
   step-write w c v sv =
       let in-n : c .0 ≤ r .head .sizes .cells = rw (n-is) (sv .1 .1) in
-      subst (λ (o : Outcome V). Done o (viewAfter top (z .cells) view (w .0) (writes (c .0) v)) xs) (sym (passes-work (Write w c v) refl (within (r .head .sizes .cells) (c .0) (sv .1 .0) in-n) (sv .0)))
+      subst (λ (o : Outcome V). Done o (viewAfter top (z .cells) view (w .0) (writes (c .0) v)) g)
+      (sym (passes-work (Write w c v) refl (within (r .head .sizes .cells) (c .0) (sv .1 .0) in-n) (sv .0)))
       (done-write (w .0) (c .0) v (sv .0 .a-crew) (sv .1 .0) in-n)
 
   ---- endings
 
-  moved-means : (lo hi : ℕ) → movedIf f (Some (lo, hi)) ≡ scriptMeaning (scriptChooser .next xs lo hi)
-  moved-means lo hi = ap (λ (g : Meaning). movedIf g (Some (lo, hi))) (ab .means) ∙ ap scriptMeaning (next-same xs lo hi)
+  moved-means : (lo hi : ℕ) → movedOn f lo hi ≡ movedOn g lo hi
+  moved-means lo hi = ap (λ (h : Meaning). movedOn h lo hi) (ab .means)
 
-  picks : (lo hi : ℕ) → f [] lo hi ≡ scriptChooser .gives xs lo hi
-  picks lo hi = ap (λ (g : Meaning). g [] lo hi) (ab .means) ∙ gives-same xs lo hi
+  picks : (lo hi : ℕ) → f [] lo hi ≡ g [] lo hi
+  picks lo hi = ap (λ (h : Meaning). h [] lo hi) (ab .means)
 
-  done-abandon : (w p : ℕ) → AtWork z view w → Done (abandonedAt r w (λ p. Ok (Ended p)) p) (viewAfter top (z .cells) view w (abandons p)) (scriptChooser .next xs (lowOf r w) (highOf r w))
+  done-abandon : (w p : ℕ) → AtWork z view w → Done (abandonedAt r w (λ p. Ok (Ended p)) p) (viewAfter top (z .cells) view w (abandons p)) (movedOn g (lowOf r w) (highOf r w))
   done-abandon w p k bk i = let s = sized w (k .a-crew) in (
     tt,
     record {
-      tie = tie-book d (abandonedAt r w (λ p. Ok (Ended p)) p .left) bk _ (i .same-length) (tied (abandonedAt r w (λ p. Ok (Ended p)) p .left) w (abandons p) (tie-abandon d r view (ab .tie) w s p (λ p. Ok (Ended p)) (working w k)));
+      tie = tie-book d (abandonedAt r w (λ p. Ok (Ended p)) p .left) bk _ (i .same-length)
+          (tied (abandonedAt r w (λ p. Ok (Ended p)) p .left) w (abandons p) (tie-abandon d r view (ab .tie) w s p (λ p. Ok (Ended p)) (working w k)));
       same-sizes = ab .same-sizes;
       means = moved-means (lowOf r w) (highOf r w);
     },
   )
 
-  step-abandon : (w : CrewNumber) (p : ℕ) → AcceptsWith scriptChooser z xs view (w .0) (abandons p) → Done (outcome d (f []) r (Abandon w)) (viewAfter top (z .cells) view (w .0) (abandons p)) (scriptChooser .next xs (view .low (w .0)) (view .high (w .0)))
+  step-abandon : (w : CrewNumber) (p : ℕ) → AcceptsWith g z view (w .0) (abandons p) →
+      Done (outcome d (f []) r (Abandon w)) (viewAfter top (z .cells) view (w .0) (abandons p)) (movedOn g (view .low (w .0)) (view .high (w .0)))
   step-abandon w p sv =
-      subst₂ (λ (l h : ℕ). Done (outcome d (f []) r (Abandon w)) (viewAfter top (z .cells) view (w .0) (abandons p)) (scriptChooser .next xs l h)) (sym (o .2)) (sym (o .3))
-      (subst (λ (o : Outcome V). Done o (viewAfter top (z .cells) view (w .0) (abandons p)) (scriptChooser .next xs (lowOf r (w .0)) (highOf r (w .0)))) (sym (passes-work (Abandon w) refl refl (sv .0) ∙ ap (abandonedAt r (w .0) (λ p. Ok (Ended p))) place))
+      subst₂ (λ (l h : ℕ). Done (outcome d (f []) r (Abandon w)) (viewAfter top (z .cells) view (w .0) (abandons p)) (movedOn g l h)) (sym (o .2)) (sym (o .3))
+      (subst (λ (o : Outcome V). Done o (viewAfter top (z .cells) view (w .0) (abandons p)) (movedOn g (lowOf r (w .0)) (highOf r (w .0))))
+      (sym (passes-work (Abandon w) refl refl (sv .0) ∙ ap (abandonedAt r (w .0) (λ p. Ok (Ended p))) place))
       (done-abandon (w .0) p (sv .0)))
     where
       o : (view .job (w .0) ≡ jobNumber r (w .0)) × (1 ≤ view .job (w .0)) × (view .low (w .0) ≡ lowOf r (w .0)) × (view .high (w .0) ≡ highOf r (w .0))
       o = of-open d r view (ab .tie) (w .0) (sized (w .0) (sv .0 .a-crew)) (working (w .0) (sv .0) .has)
 
       place : f [] (lowOf r (w .0)) (highOf r (w .0)) ≡ p
-      place = picks (lowOf r (w .0)) (highOf r (w .0)) ∙ sym (sv .1 ∙ ap₂ (scriptChooser .gives xs) (o .2) (o .3))
+      place = picks (lowOf r (w .0)) (highOf r (w .0)) ∙ sym (sv .1 ∙ ap₂ (g []) (o .2) (o .3))
 
-  done-commit : (w p : ℕ) → AtWork z view w → Done (committedAt d r w p) (viewAfter top (z .cells) view w (commits p)) (scriptChooser .next xs (commitLow r w) (highOf r w))
+  done-commit : (w p : ℕ) → AtWork z view w → Done (committedAt d r w p) (viewAfter top (z .cells) view w (commits p)) (movedOn g (commitLow r w) (highOf r w))
   done-commit w p k bk i = let s = sized w (k .a-crew) in (
     tt,
     record {
@@ -259,10 +272,11 @@ module _ {V : Type 0} (d : V) (q : Register V) (view : RegisterView V) (xs : Lis
     },
   )
 
-  step-commit : (w : CrewNumber) (p : ℕ) → AcceptsWith scriptChooser z xs view (w .0) (commits p) → Done (outcome d (f []) r (Commit w)) (viewAfter top (z .cells) view (w .0) (commits p)) (scriptChooser .next xs (commitLowerBound (z .cells) (z .crews) view (w .0)) (view .high (w .0)))
+  step-commit : (w : CrewNumber) (p : ℕ) → AcceptsWith g z view (w .0) (commits p) →
+      Done (outcome d (f []) r (Commit w)) (viewAfter top (z .cells) view (w .0) (commits p)) (movedOn g (commitLowerBound (z .cells) (z .crews) view (w .0)) (view .high (w .0)))
   step-commit w p sv =
-      subst₂ (λ (l h : ℕ). Done (outcome d (f []) r (Commit w)) (viewAfter top (z .cells) view (w .0) (commits p)) (scriptChooser .next xs l h)) (sym fl) (sym (o .3))
-      (subst (λ (o : Outcome V). Done o (viewAfter top (z .cells) view (w .0) (commits p)) (scriptChooser .next xs (commitLow r (w .0)) (highOf r (w .0)))) (sym (passes-work (Commit w) refl refl (sv .0) ∙ (ap (λ (t : Bool). cond t (abandonOutcome (f []) r (w .0) (λ p. Err (NoPlace p))) (committedAt d r (w .0) (f [] (commitLow r (w .0)) (highOf r (w .0))))) room ∙ ap (committedAt d r (w .0)) place)))
+      subst₂ (λ (l h : ℕ). Done (outcome d (f []) r (Commit w)) (viewAfter top (z .cells) view (w .0) (commits p)) (movedOn g l h)) (sym fl) (sym (o .3))
+      (subst (λ (o : Outcome V). Done o (viewAfter top (z .cells) view (w .0) (commits p)) (movedOn g (commitLow r (w .0)) (highOf r (w .0)))) (sym (passes-work (Commit w) refl refl (sv .0) ∙ (with-room ∙ ap (committedAt d r (w .0)) place)))
       (done-commit (w .0) p (sv .0)))
     where
       o : (view .job (w .0) ≡ jobNumber r (w .0)) × (1 ≤ view .job (w .0)) × (view .low (w .0) ≡ lowOf r (w .0)) × (view .high (w .0) ≡ highOf r (w .0))
@@ -274,22 +288,27 @@ module _ {V : Type 0} (d : V) (q : Register V) (view : RegisterView V) (xs : Lis
       room : ltb (highOf r (w .0)) (commitLow r (w .0) + 2) ≡ false
       room = le-ltb (highOf r (w .0)) (commitLow r (w .0) + 2) (omega (arith, fl, o .3, sv .1))
 
+      with-room : accepted d (f []) r (Commit w) ≡ committedAt d r (w .0) (f [] (commitLow r (w .0)) (highOf r (w .0)))
+      with-room = ap (λ (t : Bool). cond t (abandonOutcome (f []) r (w .0) (λ p. Err (NoPlace p))) (committedAt d r (w .0) (f [] (commitLow r (w .0)) (highOf r (w .0))))) room
+
       place : f [] (commitLow r (w .0)) (highOf r (w .0)) ≡ p
-      place = picks (commitLow r (w .0)) (highOf r (w .0)) ∙ sym (sv .2 ∙ ap₂ (scriptChooser .gives xs) fl (o .3))
+      place = picks (commitLow r (w .0)) (highOf r (w .0)) ∙ sym (sv .2 ∙ ap₂ (g []) fl (o .3))
 
   ---- any
 
-  step : (k : Call V) {e : Operation V V ℕ} → SameCall e (operation k) → AcceptsWith scriptChooser z xs view (crewOf k) e → Done (outcome d (f []) r k) (viewAfter top (z .cells) view (crewOf k) e) (chooserAfter scriptChooser z xs view (crewOf k) e)
+  step : (k : Call V) {e : Operation V V ℕ} → SameCall e (operation k) → AcceptsWith g z view (crewOf k) e →
+      Done (outcome d (f []) r k) (viewAfter top (z .cells) view (crewOf k) e) (meaningAfter g z view (crewOf k) e)
   step (Open w) open-open sv = step-open w sv
   step (Read w c) (read-read {r = v}) sv = step-read w c v sv
   step (Write w c v) write-write sv = step-write w c v sv
   step (Commit w) (commit-commit {p = p}) sv = step-commit w p sv
   step (Abandon w) (abandon-abandon {p = p}) sv = step-abandon w p sv
 
-  pub performed : (k : Call V) {e : Operation V V ℕ} (a : Result (Answer V) Refusal) (r′ : Register V) (f′ : Meaning) → SameCall e (operation k) → AcceptsWith scriptChooser z xs view (crewOf k) e → Performs d r f k a r′ f′ →
-      IsAccepted a × Abreast d q (viewAfter top (z .cells) view (crewOf k) e) (chooserAfter scriptChooser z xs view (crewOf k) e) r′ f′
+  pub performed : (k : Call V) {e : Operation V V ℕ} (a : Result (Answer V) Refusal) (r′ : Register V) (f′ : Meaning) → SameCall e (operation k) →
+      AcceptsWith g z view (crewOf k) e → Performs d r f k a r′ f′ →
+      IsAccepted a × Abreast d q (viewAfter top (z .cells) view (crewOf k) e) (meaningAfter g z view (crewOf k) e) r′ f′
   performed k {e = e} a r′ f′ m sv p =
-      let g = step k m sv (r′ .tables .book) (p .enters) in (
-        subst (λ (x : Result (Answer V) Refusal). IsAccepted x) (sym (p .answers)) (g .0),
-        subst₂ (λ (x : Register V) (y : Meaning). Abreast d q (viewAfter top (z .cells) view (crewOf k) e) (chooserAfter scriptChooser z xs view (crewOf k) e) x y) (sym (p .leaves)) (sym (p .asks)) (g .1),
+      let done = step k m sv (r′ .tables .book) (p .enters) in (
+        subst (λ (x : Result (Answer V) Refusal). IsAccepted x) (sym (p .answers)) (done .0),
+        subst₂ (λ (x : Register V) (y : Meaning). Abreast d q (viewAfter top (z .cells) view (crewOf k) e) (meaningAfter g z view (crewOf k) e) x y) (sym (p .leaves)) (sym (p .asks)) (done .1),
       )

@@ -6,11 +6,12 @@ use mathlib.Core.Logic.{_⊎_, inl, inr}
 use Prim.Native.Nat.{ℕ, suc, _+_}
 use native.Mathlib.Omega.{arith}
 use lib.Dec.{eqb}
+use Rattle.std.specs.Options.{isSome}
 use Rattle.std.specs.declared.option.Option.the-variants.{Some, None}
 use Rattle.std.proofs.shelf.Tests.{eqb-true, eq-eqb, ne-eqb, both-ways}
 use Rattle.terms.specs.declared.records.Ending.the-variants.{Abandoned, Committed}
 use Rattle.terms.specs.declared.records.Entry.{Entry}
-use Rattle.history.specs.Events.{History, Operation, byJobs, crewOf, endsAt, isSome, openJob, openings}
+use Rattle.history.specs.Events.{History, Operation, byJobs, crewOf, endsAt, openJob, openings}
 use Rattle.history.specs.Events.Event.{by}
 use Rattle.history.specs.Events.Operation.{abandons, commits, opens, reads, writes}
 use Rattle.history.specs.Precedence.{In}
@@ -59,7 +60,8 @@ module _ {V : Type 0} where
   acting-is run w (commits p) = refl
   acting-is run w (abandons p) = refl
 
-  projection-is : (run : History V) (w : ℕ) (d : Operation V V ℕ) (y : ℕ) → projection (byJobs (by w d ∷ run)) y ≡ cond (eqb (acting run w d) y) (d ∷ projection (byJobs run) y) (projection (byJobs run) y)
+  projection-is : (run : History V) (w : ℕ) (d : Operation V V ℕ) (y : ℕ) →
+      projection (byJobs (by w d ∷ run)) y ≡ cond (eqb (acting run w d) y) (d ∷ projection (byJobs run) y) (projection (byJobs run) y)
   projection-is run w d y = ap (λ (h : History V). projection h y) (acting-is run w d)
 
   acting-none : (run : History V) (w : ℕ) (d : Operation V V ℕ) → WellMade (by w d ∷ run) → endPlace (projection (byJobs run) (acting run w d)) ≡ None
@@ -86,7 +88,11 @@ module _ {V : Type 0} where
   names-still : (run : History V) (w : ℕ) (d : Operation V V ℕ) → WellMade (by w d ∷ run) → (e : Entry) → Names run e → Names (by w d ∷ run) e
   names-still run w d wm e n =
       let s = projection-still run w d wm (e .job .0) (e .place .0) (n .place-is) in
-      record { crew-is = crew-still run w d (e .job .0) (not-acting run w d wm (e .job .0) (e .place .0) (n .place-is)) ∙ n .crew-is; place-is = ap endPlace s ∙ n .place-is; ending-is = ap isCommitted s ∙ n .ending-is }
+      record {
+        crew-is = crew-still run w d (e .job .0) (not-acting run w d wm (e .job .0) (e .place .0) (n .place-is)) ∙ n .crew-is;
+        place-is = ap endPlace s ∙ n .place-is;
+        ending-is = ap isCommitted s ∙ n .ending-is;
+      }
 
   ---- an operation that ends no job
 
@@ -108,10 +114,13 @@ module _ {V : Type 0} where
 
   ---- an operation that ends its job
 
-  pub names-commit : (run : History V) (w p : ℕ) → WellMade (by w (commits p) ∷ run) → Names (by w (commits p) ∷ run) (record { job = record { 0 = openJob run w }; crew = record { 0 = w }; place = record { 0 = p }; ending = Committed })
-  names-commit run w p wm = record { crew-is = crew-of-open-job run w (wm .0); place-is = rw (eq-eqb (openJob run w) (openJob run w) refl); ending-is = rw (eq-eqb (openJob run w) (openJob run w) refl) }
+  pub names-commit : (run : History V) (w p : ℕ) → WellMade (by w (commits p) ∷ run) →
+      Names (by w (commits p) ∷ run) (record { job = record { 0 = openJob run w }; crew = record { 0 = w }; place = record { 0 = p }; ending = Committed })
+  names-commit run w p wm =
+      record { crew-is = crew-of-open-job run w (wm .0); place-is = rw (eq-eqb (openJob run w) (openJob run w) refl); ending-is = rw (eq-eqb (openJob run w) (openJob run w) refl) }
 
-  pub names-abandon : (run : History V) (w p : ℕ) → WellMade (by w (abandons p) ∷ run) → Names (by w (abandons p) ∷ run) (record { job = record { 0 = openJob run w }; crew = record { 0 = w }; place = record { 0 = p }; ending = Abandoned })
+  pub names-abandon : (run : History V) (w p : ℕ) → WellMade (by w (abandons p) ∷ run) →
+      Names (by w (abandons p) ∷ run) (record { job = record { 0 = openJob run w }; crew = record { 0 = w }; place = record { 0 = p }; ending = Abandoned })
   names-abandon run w p wm = record {
     crew-is = crew-of-open-job run w (wm .0);
     place-is = rw (eq-eqb (openJob run w) (openJob run w) refl);
@@ -128,8 +137,10 @@ module _ {V : Type 0} where
   }
     where
       fresh-one : In (e .job .0) (orderOf back ++ orderOf front) → ⊥
-      fresh-one i = both-ways (hasEnded (byJobs run) (e .job .0)) (rw j (ap isSome (acting-none run w d wm))) (only-ended run (front ++ back) (k .entries) (e .job .0) (rw (order-of-append front back) i))
+      fresh-one i =
+          both-ways (hasEnded (byJobs run) (e .job .0)) (rw j (ap isSome (acting-none run w d wm))) (only-ended run (front ++ back) (k .entries) (e .job .0) (rw (order-of-append front back) i))
 
-      found : (x : ℕ) (b : Bool) → eqb (acting run w d) x ≡ b → isSome (endPlace (cond b (d ∷ projection (byJobs run) x) (projection (byJobs run) x))) ≡ true → In x (orderOf back ++ (e .job .0 ∷ orderOf front))
+      found : (x : ℕ) (b : Bool) → eqb (acting run w d) x ≡ b → isSome (endPlace (cond b (d ∷ projection (byJobs run) x) (projection (byJobs run) x))) ≡ true →
+          In x (orderOf back ++ (e .job .0 ∷ orderOf front))
       found x true f q = rw (← eqb-true (acting run w d) x f, ← j) (in-mid-here (e .job .0) (orderOf back) (orderOf front))
       found x false f q = in-mid-keeps x (e .job .0) (orderOf back) (orderOf front) (rw (order-of-append front back) at (k .all x q))

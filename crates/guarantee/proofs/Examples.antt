@@ -15,7 +15,7 @@ use Rattle.guarantee.proofs.Permissiveness.{register-is-permissive, some-from-
 
 started : JustStarted (smallRegister .head) (smallRegister .tables)
 started = record {
-  sizes-in-range = record { some-cells = lit≤ tt; cells-fit = lit≤ tt; some-crews = lit≤ tt; crews-fit = lit≤ tt; some-entries = lit≤ tt; entries-fit = lit≤ tt };
+  sizes-in-range = refl;
   head-fresh = refl;
   contents-fresh = refl;
   fits = record { values = refl; written = refl; read = refl; jobs = refl; own = refl; flags = refl; book = refl };

@@ -19,6 +19,7 @@ use Rattle.terms.specs.declared.records.JobRecord.{JobRecord}
 use Rattle.terms.specs.declared.refusals.Refusal.{Refusal}
 use Rattle.terms.specs.declared.refusals.Refusal.the-variants.{NoPlace, Stale}
 use Rattle.choosers.specs.Meaning.{KeepsLaw, Meaning}
+use Rattle.choosers.proofs.Moves.{moved-lawful}
 use Rattle.history.specs.Events.{History, Operation, endsAt, openJob, openings}
 use Rattle.history.specs.Events.Event.{by}
 use Rattle.history.specs.Views.{Accepts, RegisterView, ViewRun, freshView, viewAfter}
@@ -42,7 +43,8 @@ use Rattle.guarantee.proofs.Booked.{Booked, acting, booked-ended, booked-plain
 use Rattle.guarantee.proofs.Counting.{none-busy}
 use Rattle.guarantee.proofs.Passing.{None-of, Sized, Working, cell-passes, free, outcome-by, sized, working}
 use Rattle.guarantee.proofs.Started.{Fresh, fresh}
-use Rattle.guarantee.proofs.Tied.{Tie, Tied, accepts-abandon, accepts-cell, accepts-commit, accepts-open, accepts-own, accepts-write, job-tied, tie-abandon, tie-cell, tie-commit, tie-open, tie-own, tie-write}
+use Rattle.guarantee.proofs.Tied.{Tie, Tied, accepts-abandon, accepts-cell, accepts-commit, accepts-open, accepts-own}
+use Rattle.guarantee.proofs.Tied.{accepts-write, job-tied, tie-abandon, tie-cell, tie-commit, tie-open, tie-own, tie-write}
 
 pub record Inv {V : Type 0} (d : V) (s : Register V) (run : History V) (r : Register V) (f : Meaning) : Type 0 where
   pub view : RegisterView V
@@ -53,7 +55,7 @@ pub record Inv {V : Type 0} (d : V) (s : Register V) (run : History V) (r : Regi
 
 pub keeps-on : (f : Meaning) (q : Option (ℕ × ℕ)) → KeepsLaw f → KeepsLaw (movedIf f q)
 keeps-on f None k = k
-keeps-on f (Some q) k = record { between = λ ps. k .between (q ∷ ps); low-without-room = λ ps. k .low-without-room (q ∷ ps); unmoved-without-room = λ qs ps. k .unmoved-without-room (q ∷ qs) ps }
+keeps-on f (Some q) k = moved-lawful f (q .0) (q .1) k
 
 pub tie-book : {V : Type 0} (d : V) (r : Register V) (es : List Entry) (s : RegisterView V) → length es ≡ length (r .tables .book) → Tie d r s → Tie d (withBook r es) s
 tie-book d r es s e t = record {
@@ -98,7 +100,8 @@ start-tie d s started = record {
     j = fresh s started
 
     zero-flag : (u c : ℕ) → 1 ≤ u → u ≤ s .head .sizes .crews → 1 ≤ c → c ≤ s .head .sizes .cells → flagOf s u c ≡ 0
-    zero-flag u c a b a′ b′ = ap (λ (t : List ℕ). getD t (spot (s .head .sizes .cells) u c) 0) (j .flags-are) ∙ getD-replicate (s .head .sizes .crews * s .head .sizes .cells) (spot (s .head .sizes .cells) u c) 0 0 (spot-in (s .head .sizes .cells) (s .head .sizes .crews) u c a b a′ b′)
+    zero-flag u c a b a′ b′ =
+        ap (λ (t : List ℕ). getD t (spot (s .head .sizes .cells) u c) 0) (j .flags-are) ∙ getD-replicate (s .head .sizes .crews * s .head .sizes .cells) (spot (s .head .sizes .cells) u c) 0 0 (spot-in (s .head .sizes .cells) (s .head .sizes .crews) u c a b a′ b′)
 
 pub at-start : {V : Type 0} (d : V) (s : Register V) (f : Meaning) → JustStarted (s .head) (s .tables) → KeepsLaw f → Inv d s [] s f
 at-start d s f j k = record {
@@ -119,7 +122,8 @@ module _ {V : Type 0} (d : V) (s : Register V) (run : History V) (r : Register V
   well-made w e ac = run-facts top (r .head .sizes .cells) (cellValues d s) (ownOf d s) (ViewRun.goes-on (inv .went) ac) .well-made
 
   -- an operation that ends no job
-  plain-step : (w : ℕ) (e : Operation V V ℕ) (left : Register V) (bk : List Entry) → Does w e → endsAt e ≡ None → left .head .sizes .cells ≡ r .head .sizes .cells → left .head .ended ≡ r .head .ended → left .tables .book ≡ r .tables .book → bk ≡ r .tables .book →
+  plain-step : (w : ℕ) (e : Operation V V ℕ) (left : Register V) (bk : List Entry) → Does w e → endsAt e ≡ None → left .head .sizes .cells ≡ r .head .sizes .cells →
+      left .head .ended ≡ r .head .ended → left .tables .book ≡ r .tables .book → bk ≡ r .tables .book →
       Tie d left (viewAfter top (r .head .sizes .cells) (inv .view) w e) → Inv d s (by w e ∷ run) (withBook left bk) f
   plain-step w e left bk ac q en ee el eb t = record {
     view = viewAfter top (r .head .sizes .cells) (inv .view) w e;
@@ -130,7 +134,8 @@ module _ {V : Type 0} (d : V) (s : Register V) (run : History V) (r : Register V
   }
 
   -- an operation that ends its job
-  ended-step : (w : ℕ) (e : Operation V V ℕ) (left : Register V) (en : Entry) (q : ℕ × ℕ) (bk : List Entry) → Does w e → en .job .0 ≡ acting run w e → Names (by w e ∷ run) en → left .head .sizes .cells ≡ r .head .sizes .cells → left .head .ended ≡ r .head .ended + 1 → left .tables .book ≡ r .tables .book →
+  ended-step : (w : ℕ) (e : Operation V V ℕ) (left : Register V) (en : Entry) (q : ℕ × ℕ) (bk : List Entry) → Does w e → en .job .0 ≡ acting run w e →
+      Names (by w e ∷ run) en → left .head .sizes .cells ≡ r .head .sizes .cells → left .head .ended ≡ r .head .ended + 1 → left .tables .book ≡ r .tables .book →
       Inserted (r .head .ended) en (r .tables .book) bk → Tie d left (viewAfter top (r .head .sizes .cells) (inv .view) w e) → Inv d s (by w e ∷ run) (withBook left bk) (movedIf f (Some q))
   ended-step w e left en q bk ac j n nn ee el i t = record {
     view = viewAfter top (r .head .sizes .cells) (inv .view) w e;
@@ -142,7 +147,8 @@ module _ {V : Type 0} (d : V) (s : Register V) (run : History V) (r : Register V
 
   -- the outcome o of the call k keeps it all
   abbrev Reached : Call V → Outcome V → Type 0
-  Reached k o = (bk : List Entry) → Entered (r .head .ended) (o .entry) (r .tables .book) bk → Inv d s (withOperation (crewOf k) (operationOf k (o .answer)) run) (withBook (o .left) bk) (movedIf f (o .asked)) × NumberedSo (o .answer) (openings run)
+  Reached k o =
+      (bk : List Entry) → Entered (r .head .ended) (o .entry) (r .tables .book) bk → Inv d s (withOperation (crewOf k) (operationOf k (o .answer)) run) (withBook (o .left) bk) (movedIf f (o .asked)) × NumberedSo (o .answer) (openings run)
 
   reached-refused : (k : Call V) (e : Refusal) → operationRefused {V = V} e ≡ None → Reached k (refused e r)
   reached-refused k e q bk b = (rw q (subst (λ (es : List Entry). Inv d s run (withBook r es) f) (sym b) inv), tt)
@@ -152,7 +158,8 @@ module _ {V : Type 0} (d : V) (s : Register V) (run : History V) (r : Register V
 
   reached-abandon : (k : Call V) (say : Place → Result (Answer V) Refusal) → Sized r (crewOf k) → Working r (crewOf k) →
       ((p : ℕ) → operationOf k (say (record { 0 = p })) ≡ Some (Operation.abandons p)) → ((p j : ℕ) → NumberedSo (say (record { 0 = p })) j) → Reached k (abandonOutcome (f []) r (crewOf k) say)
-  reached-abandon k say z wk operation num bk i = (rw (operation p) (ended-step w (Operation.abandons p) (abandonedAt r w say p .left) (entryOf r w p Abandoned) (lowOf r w, highOf r w) bk ac (number-is w z wk) names refl refl refl i (tie-abandon d r (inv .view) (inv .tie) w z p say wk)), num p (openings run))
+  reached-abandon k say z wk operation num bk i =
+      (rw (operation p) (ended-step w (Operation.abandons p) (abandonedAt r w say p .left) (entryOf r w p Abandoned) (lowOf r w, highOf r w) bk ac (number-is w z wk) names refl refl refl i (tie-abandon d r (inv .view) (inv .tie) w z p say wk)), num p (openings run))
     where
       w : ℕ
       w = crewOf k
@@ -164,10 +171,15 @@ module _ {V : Type 0} (d : V) (s : Register V) (run : History V) (r : Register V
       ac = let b = inv .keeps .between [] (lowOf r w) (highOf r w) (wk .room) in accepts-abandon d r (inv .view) (inv .tie) w z p wk (b .0) (b .1)
 
       names : Names (by w (Operation.abandons p) ∷ run) (entryOf r w p Abandoned)
-      names = subst (λ (x : ℕ). Names (by w (Operation.abandons p) ∷ run) (record { job = record { 0 = x }; crew = record { 0 = w }; place = record { 0 = p }; ending = Abandoned })) (sym (number-is w z wk)) (names-abandon run w p (well-made w (Operation.abandons p) ac))
+      names =
+          subst
+          (λ (x : ℕ). Names (by w (Operation.abandons p) ∷ run) (record { job = record { 0 = x }; crew = record { 0 = w }; place = record { 0 = p }; ending = Abandoned }))
+          (sym (number-is w z wk)) (names-abandon run w p (well-made w (Operation.abandons p) ac))
 
-  reached-commit : (w : _) → Sized r (crewOf {V = V} (Commit w)) → Working r (crewOf {V = V} (Commit w)) → ltb (highOf r (w .0)) (commitLow r (w .0) + 2) ≡ false → Reached (Commit w) (committedAt d r (w .0) (f [] (commitLow r (w .0)) (highOf r (w .0))))
-  reached-commit u z wk l bk i = (ended-step w (Operation.commits p) (committedAt d r w p .left) (entryOf r w p Committed) (commitLow r w, highOf r w) bk ac (number-is w z wk) names refl refl refl i (tie-commit d r (inv .view) (inv .tie) w z p wk), tt)
+  reached-commit : (w : _) → Sized r (crewOf {V = V} (Commit w)) → Working r (crewOf {V = V} (Commit w)) → ltb (highOf r (w .0)) (commitLow r (w .0) + 2) ≡ false →
+      Reached (Commit w) (committedAt d r (w .0) (f [] (commitLow r (w .0)) (highOf r (w .0))))
+  reached-commit u z wk l bk i =
+      (ended-step w (Operation.commits p) (committedAt d r w p .left) (entryOf r w p Committed) (commitLow r w, highOf r w) bk ac (number-is w z wk) names refl refl refl i (tie-commit d r (inv .view) (inv .tie) w z p wk), tt)
     where
       w : ℕ
       w = u .0
@@ -176,10 +188,15 @@ module _ {V : Type 0} (d : V) (s : Register V) (run : History V) (r : Register V
       p = f [] (commitLow r w) (highOf r w)
 
       ac : Does w (Operation.commits p)
-      ac = let b = inv .keeps .between [] (commitLow r w) (highOf r w) (ltb-false (highOf r w) (commitLow r w + 2) l) in accepts-commit d r (inv .view) (inv .tie) w z p wk (b .0) (b .1) (run-facts top (r .head .sizes .cells) (cellValues d s) (ownOf d s) (inv .went) .view-facts .range w)
+      ac =
+          let b = inv .keeps .between [] (commitLow r w) (highOf r w) (ltb-false (highOf r w) (commitLow r w + 2) l) in
+          accepts-commit d r (inv .view) (inv .tie) w z p wk (b .0) (b .1) (run-facts top (r .head .sizes .cells) (cellValues d s) (ownOf d s) (inv .went) .view-facts .range w)
 
       names : Names (by w (Operation.commits p) ∷ run) (entryOf r w p Committed)
-      names = subst (λ (x : ℕ). Names (by w (Operation.commits p) ∷ run) (record { job = record { 0 = x }; crew = record { 0 = w }; place = record { 0 = p }; ending = Committed })) (sym (number-is w z wk)) (names-commit run w p (well-made w (Operation.commits p) ac))
+      names =
+          subst
+          (λ (x : ℕ). Names (by w (Operation.commits p) ∷ run) (record { job = record { 0 = x }; crew = record { 0 = w }; place = record { 0 = p }; ending = Committed }))
+          (sym (number-is w z wk)) (names-commit run w p (well-made w (Operation.commits p) ac))
 
   reached : (k : Call V) → None-of (testsOf r k) → Reached k (accepted d (f []) r k)
   reached (Open w) ns =
@@ -219,7 +236,8 @@ module _ {V : Type 0} (d : V) (s : Register V) (run : History V) (r : Register V
   reached-outcome : (k : Call V) → Reached k (outcome d (f []) r k)
   reached-outcome k = outcome-by (Reached k) d (f []) r k (reached-refused k) (reached k)
 
-  pub performed : (k : Call V) (a : Result (Answer V) Refusal) (r′ : Register V) (f′ : Meaning) → Performs d r f k a r′ f′ → Inv d s (withOperation (crewOf k) (operationOf k a) run) r′ f′ × NumberedSo a (openings run)
+  pub performed : (k : Call V) (a : Result (Answer V) Refusal) (r′ : Register V) (f′ : Meaning) → Performs d r f k a r′ f′ →
+      Inv d s (withOperation (crewOf k) (operationOf k a) run) r′ f′ × NumberedSo a (openings run)
   performed k a r′ f′ p = (
     subst (λ (x : Register V). Inv d s (withOperation (crewOf k) (operationOf k a) run) x f′) (sym (p .leaves))
         (subst (λ (x : Meaning). Inv d s (withOperation (crewOf k) (operationOf k a) run) (withBook (o .left) (r′ .tables .book)) x) (sym (p .asks))

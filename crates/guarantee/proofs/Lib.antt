@@ -9,7 +9,6 @@ pub mod Invariant
 pub mod Opacity
 pub mod RuleFacts
 pub mod Soundness
-pub mod Scripts
 pub mod Bounding
 pub mod Accepting
 pub mod Permissiveness

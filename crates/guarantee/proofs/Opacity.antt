@@ -7,12 +7,13 @@ use Prim.Native.Nat.{ℕ, zero, suc, _+_, _≤_, _<_}
 use native.Mathlib.Omega.{arith}
 use native.Mathlib.Decide.{decLe}
 use lib.Dec.{eqb, leb, lit≤}
+use Rattle.std.specs.Options.{isSome}
 use Rattle.std.specs.declared.option.Option.{Option}
 use Rattle.std.proofs.shelf.Tests.{eqb-true, eqb-false, both-ways}
 use Rattle.terms.specs.declared.records.Entry.{Entry}
 use Rattle.choosers.specs.Meaning.{KeepsLaw, Meaning}
 use Rattle.history.specs.Bounds.{Bounds, Placed, Tracked, boundsByJob, sortKey, sortKeyAt}
-use Rattle.history.specs.Events.{Event, History, Operation, byJobs, isSome, openings}
+use Rattle.history.specs.Events.{Event, History, Operation, byJobs, openings}
 use Rattle.history.specs.Events.Event.{by}
 use Rattle.history.specs.Events.Operation.{abandons, commits, opens, reads, writes}
 use Rattle.history.specs.Precedence.{Ended, Extends, In, Occurs, Precedes, Respects, SerializationOrder, StandsBefore}
@@ -150,7 +151,8 @@ module _ {V : Type 0} (h : History V) (k : ℕ → ℕ) where
   ended-fill zero row = refl
   ended-fill (suc n) row = go (hasEnded h (suc n)) refl (ended-fill n row)
     where
-      go : (b : Bool) → hasEnded h (suc n) ≡ b → endedPart h (fill k (hasEnded h) n row) ≡ endedPart h row → endedPart h (cond b (fill k (hasEnded h) n row) (insert k (suc n) (fill k (hasEnded h) n row))) ≡ endedPart h row
+      go : (b : Bool) → hasEnded h (suc n) ≡ b → endedPart h (fill k (hasEnded h) n row) ≡ endedPart h row →
+          endedPart h (cond b (fill k (hasEnded h) n row) (insert k (suc n) (fill k (hasEnded h) n row))) ≡ endedPart h row
       go true e ih = ih
       go false e ih = ended-insert (suc n) e (fill k (hasEnded h) n row) ∙ ih
 
@@ -239,7 +241,8 @@ module _ {V : Type 0} (d : V) (s : Register V) (run : History V) (r : Register V
   book-sorted (e ∷ es) c ns = sorted-last k (e .job .0) (orderOf es) (book-sorted es (c .1) (ns .1)) (above-row e es (ns .0) (c .0) (ns .1))
 
   respects-by-key : (row : List ℕ) → Sorted k row → Distinct row → ((x : ℕ) → isCommitted (projection (byJobs run) x) ≡ true → In x row) → Respects (byJobs run) row
-  respects-by-key row so di all = record { once = λ x p. distinct-once x (p .1) di (p .2); all-committed = all; rules = λ x y i j ne q. stands k row so x y i j ne (keys-ascend (byJobs run) (b .low) (b .high) pl x y ne q) }
+  respects-by-key row so di all =
+      record { once = λ x p. distinct-once x (p .1) di (p .2); all-committed = all; rules = λ x y i j ne q. stands k row so x y i j ne (keys-ascend (byJobs run) (b .low) (b .high) pl x y ne q) }
 
   abbrev B : List ℕ
   B = orderOf (dayBook r)
@@ -257,7 +260,8 @@ module _ {V : Type 0} (d : V) (s : Register V) (run : History V) (r : Register V
   b-done = respectful-orders-explain (cellValues d s) (byJobs run) B pr tr b-respects
 
   -- the cells have the values that an order leaves where it explains
-  held : (order : List ℕ) → SeriallyExplained (cellValues d s) (byJobs run) order → (c : ℕ) → 1 ≤ c → c ≤ r .head .sizes .cells → executeSerially (projection (byJobs run)) (cellValues d s) order c ≡ cellValues d r c
+  held : (order : List ℕ) → SeriallyExplained (cellValues d s) (byJobs run) order → (c : ℕ) → 1 ≤ c → c ≤ r .head .sizes .cells →
+      executeSerially (projection (byJobs run)) (cellValues d s) order c ≡ cellValues d r c
   held order done c a z = done .same-left c ∙ (sym (run-facts top (r .head .sizes .cells) (cellValues d s) (ownOf d s) (inv .went) .view-facts .value-is c) ∙ sym (inv .tie .value-is c a z))
 
   -- all jobs: the day book's order with the open jobs sorted in at low + 1
@@ -320,7 +324,10 @@ order-explains d s log r f inv = (
     serialization-order = w-order d s (historyOf log) r f inv;
     day-book-order = w-ended d s (historyOf log) r f inv;
     real-time = real-time d s (historyOf log) r f inv;
-    explains = record { told-the-same = w-done d s (historyOf log) r f inv .same-observed; left-the-same = held d s (historyOf log) r f inv (whole d s (historyOf log) r f inv) (w-done d s (historyOf log) r f inv) };
+    explains = record {
+      told-the-same = w-done d s (historyOf log) r f inv .same-observed;
+      left-the-same = held d s (historyOf log) r f inv (whole d s (historyOf log) r f inv) (w-done d s (historyOf log) r f inv);
+    };
   },
 )
 
@@ -337,7 +344,8 @@ pub every-run-is-opaque : (V : Type 0) → EveryRunIsOpaque V
 every-run-is-opaque V d s f₀ j k log r f rn = let g = invariant d s f₀ j k rn in (day-book-explains d s log r f (g .0) (g .1), order-explains d s log r f (g .0))
 
 -- a run stood somewhere after each older part of its calls
-run-split : {V : Type 0} (d : V) (s : Register V) (f₀ : Meaning) (newer older : List (Step V)) {r : Register V} {f : Meaning} → Run d s f₀ (newer ++ older) r f → (q : Register V) × (g : Meaning) × Run d s f₀ older q g × Run d q g newer r f
+run-split : {V : Type 0} (d : V) (s : Register V) (f₀ : Meaning) (newer older : List (Step V)) {r : Register V} {f : Meaning} → Run d s f₀ (newer ++ older) r f →
+    (q : Register V) × (g : Meaning) × Run d s f₀ older q g × Run d q g newer r f
 run-split d s f₀ [] older {r = r} {f = f} rn = (r, f, rn, Run.starts)
 run-split d s f₀ (step ∷ newer) older (Run.then rn p) = let ih = run-split d s f₀ newer older rn in (ih .0, ih .1, ih .2, Run.then (ih .3) p)
 run-split d s f₀ (step ∷ newer) older (Run.passed-over rn) = let ih = run-split d s f₀ newer older rn in (ih .0, ih .1, ih .2, Run.passed-over (ih .3))

@@ -1,10 +1,11 @@
 -- The whole list, both ways.
-use mathlib.Core.Path.{refl, sym, ap, subst}
+use mathlib.Core.Path.{_≡_, refl, sym, ap, subst}
+use mathlib.Core.Bool.{Bool, true, _&&_}
 use mathlib.Core.List.{List, [], _∷_}
 use Prim.Native.Nat.{ℕ, _+_, _≤_}
 use native.Mathlib.Omega.{arith}
-use lib.Dec.{ltb, lit≤}
-use Rattle.std.proofs.shelf.Tests.{cond-both}
+use lib.Dec.{leb, ltb, lit≤}
+use Rattle.std.proofs.shelf.Tests.{and-parts, cond-both, leb-true}
 use Rattle.std.specs.declared.option.Option.{Option}
 use Rattle.std.specs.declared.option.Option.the-variants.{Some, None}
 use Rattle.std.specs.declared.result.Result.{Result}
@@ -12,7 +13,7 @@ use Rattle.terms.specs.declared.refusals.Refusal.{Refusal}
 use Rattle.choosers.specs.Lawful.{script-lawful}
 use Rattle.choosers.specs.Meaning.{KeepsLaw, Meaning}
 use Rattle.choosers.specs.Script.{scriptMeaning}
-use Rattle.history.specs.Acceptance.{RunWith, scriptChooser}
+use Rattle.history.specs.Acceptance.{RunWith}
 use Rattle.history.specs.Events.{History, Operation}
 use Rattle.history.specs.Precedence.{Extends}
 use Rattle.history.specs.Precedence.Extends.{here, later}
@@ -23,7 +24,8 @@ use Rattle.history.proofs.Alike.Alike.{more, none}
 use Rattle.history.proofs.Alike.SameCall.{abandon-abandon, commit-commit, open-open, read-read, write-write}
 use Rattle.history.proofs.Choosing.{positions-script}
 use Rattle.rules.specs.JobCalls.{Outcome, accepted, commitLow, crewOf, outcome, raisedLow}
-use Rattle.rules.specs.Limits.{mostEntries, top}
+use Rattle.rules.specs.Heads.{Dimensions, SizesInRange}
+use Rattle.rules.specs.Limits.{mostCells, mostCrews, mostEntries, top}
 use Rattle.rules.specs.Making.{JustStarted}
 use Rattle.rules.specs.Registers.{Register, hasWritten, highOf, ownOf}
 use Rattle.rules.specs.Runs.{Performed, Run, Step}
@@ -32,7 +34,8 @@ use Rattle.rules.specs.declared.calls.Call.{Call}
 use Rattle.rules.specs.declared.calls.Call.the-variants.{Abandon, Commit, Open, Read, Write}
 use Rattle.guarantee.specs.Histories.{eventsOf, historyOf, madeBy, operation, operationOf, withOperation}
 use Rattle.guarantee.specs.Opacity.{cellValues}
-use Rattle.guarantee.specs.Permissiveness.{AcceptedCallsHaveAnOrder, AllAccepted, EveryListCanBePerformed, EveryRunAccepts, HasSerializationOrder, IsAccepted, IsOrderOf, IsPermissive, RegisterIsPermissive, RunOf, SomeRunAccepts, WellMadeCalls, scriptBy}
+use Rattle.guarantee.specs.Permissiveness.{AcceptedCallsHaveAnOrder, AllAccepted, EveryListCanBePerformed, EveryRunAccepts, HasSerializationOrder, IsAccepted}
+use Rattle.guarantee.specs.Permissiveness.{IsOrderOf, IsPermissive, RegisterIsPermissive, RunOf, SomeRunAccepts, WellMadeCalls, scriptBy}
 use Rattle.guarantee.specs.RuleFacts.{SoundHead}
 use Rattle.guarantee.proofs.Accepting.{Abreast, performed, sizes-of}
 use Rattle.guarantee.proofs.Invariant.{keeps-on, start-tie}
@@ -110,30 +113,37 @@ every-list-can-be-performed V d s f j ke ks = sound-run d s f (first-sound s j) 
 
 ---- From an order to every run
 
-module _ {V : Type 0} (d : V) (s : Register V) (j : JustStarted (s .head) (s .tables)) where
-  at-first : (xs : List ℕ) → Abreast d s (freshView (cellValues d s) (ownOf d s)) xs s (scriptMeaning xs)
-  at-first xs = record { tie = start-tie d s j; same-sizes = refl; means = refl }
+last-holds : (a b c d e f : Bool) → ((a && b) && ((c && d) && (e && f))) ≡ true → f ≡ true
+last-holds a b c d e f q = and-parts e f (and-parts (c && d) (e && f) (and-parts (a && b) ((c && d) && (e && f)) q .1) .1) .1
 
-  abbrev Accepted-by : List ℕ → History V → RegisterView V → List ℕ → Type 0
-  Accepted-by xs run view ys = RunWith scriptChooser (sizes-of s) (cellValues d s) (ownOf d s) xs run view ys
+entries-fit : (z : Dimensions) → SizesInRange z → z .entries ≤ mostEntries
+entries-fit z q = leb-true (z .entries) mostEntries
+    (last-holds (leb 1 (z .cells)) (leb (z .cells) mostCells) (leb 1 (z .crews)) (leb (z .crews) mostCrews) (leb 1 (z .entries)) (leb (z .entries) mostEntries) q)
+
+module _ {V : Type 0} (d : V) (s : Register V) (j : JustStarted (s .head) (s .tables)) where
+  at-first : (f₀ : Meaning) → Abreast d s (freshView (cellValues d s) (ownOf d s)) f₀ s f₀
+  at-first f₀ = record { tie = start-tie d s j; same-sizes = refl; means = refl }
+
+  abbrev Accepted-by : Meaning → History V → RegisterView V → Meaning → Type 0
+  Accepted-by f₀ run view g = RunWith f₀ (sizes-of s) (cellValues d s) (ownOf d s) run view g
 
   -- along what the view accepts, every call of the register is accepted
-  abreast : (xs : List ℕ) {log : List (Step V)} {r : Register V} {f : Meaning} → Performed d s (scriptMeaning xs) log r f →
-      {run : History V} {view : RegisterView V} {ys : List ℕ} → Alike run (eventsOf (madeBy log)) → Accepted-by xs run view ys → AllAccepted log × Abreast d s view ys r f
-  abreast xs Performed.starts none RunWith.starts = (tt, at-first xs)
-  abreast xs (Performed.then {r = r} {f = f} {k = k} {a = a} {r′ = r′} {f′ = f′} g p) (more m al) (RunWith.goes-on {s = view} {k = ys} sv now) =
-      let ih = abreast xs g al sv in
-      let q = performed d s view ys r f (ih .1) k a r′ f′ m now p in
+  abreast : (f₀ : Meaning) {log : List (Step V)} {r : Register V} {f : Meaning} → Performed d s f₀ log r f →
+      {run : History V} {view : RegisterView V} {g : Meaning} → Alike run (eventsOf (madeBy log)) → Accepted-by f₀ run view g → AllAccepted log × Abreast d s view g r f
+  abreast f₀ Performed.starts none RunWith.starts = (tt, at-first f₀)
+  abreast f₀ (Performed.then {r = r} {f = f} {k = k} {a = a} {r′ = r′} {f′ = f′} pf p) (more m al) (RunWith.goes-on {s = view} {f = g} sv now) =
+      let ih = abreast f₀ pf al sv in
+      let q = performed d s view g r f (ih .1) k a r′ f′ m now p in
       ((q .0, ih .0), q .1)
 
   -- where the view accepts a list, it accepts each older part of it
-  older : (xs : List ℕ) {ks js : List (Call V)} → Extends ks js → {run : History V} {view : RegisterView V} {ys : List ℕ} → Alike run (eventsOf ks) → Accepted-by xs run view ys →
-      (run′ : History V) × (view′ : RegisterView V) × (ys′ : List ℕ) × Alike run′ (eventsOf js) × Accepted-by xs run′ view′ ys′
-  older xs here {run = run} {view = view} {ys = ys} al sv = (run, view, ys, al, sv)
-  older xs (later t) (more m al) (RunWith.goes-on sv now) = older xs t al sv
+  older : (f₀ : Meaning) {ks js : List (Call V)} → Extends ks js → {run : History V} {view : RegisterView V} {g : Meaning} → Alike run (eventsOf ks) → Accepted-by f₀ run view g →
+      (run′ : History V) × (view′ : RegisterView V) × (g′ : Meaning) × Alike run′ (eventsOf js) × Accepted-by f₀ run′ view′ g′
+  older f₀ here {run = run} {view = view} {g = g} al sv = (run, view, g, al, sv)
+  older f₀ (later t) (more m al) (RunWith.goes-on sv now) = older f₀ t al sv
 
   book-under-top : s .head .sizes .entries + 2 ≤ top
-  book-under-top = let t : mostEntries + 2 ≤ top = lit≤ tt in omega (arith, j .sizes-in-range .entries-fit)
+  book-under-top = let t : mostEntries + 2 ≤ top = lit≤ tt in omega (arith, t, entries-fit (s .head .sizes) (j .sizes-in-range))
 
   -- where every run accepts every call, one does
   pub some-from-every : (ks : List (Call V)) (f : Meaning) → KeepsLaw f → EveryRunAccepts d s f ks → SomeRunAccepts d s f ks
@@ -145,8 +155,8 @@ module _ {V : Type 0} (d : V) (s : Register V) (j : JustStarted (s .head) (s .ta
     by-positions : (order : List ℕ) → IsOrderOf ks order → EveryRunAccepts d s (scriptMeaning (scriptBy order ks)) ks
     by-positions order l log r f g since =
         let a = positions-script (sizes-of s) (cellValues d s) (ownOf d s) (eventsOf ks) book-under-top well order l in
-        let o = older (scriptBy order ks) since (subst (λ (x : Calls V). Alike (a .run) x) (a .same-calls) (calls-alike (a .run))) (a .run-with) in
-        abreast (scriptBy order ks) g (o .3) (o .4) .0
+        let o = older (scriptMeaning (scriptBy order ks)) since (subst (λ (x : Calls V). Alike (a .run) x) (a .same-calls) (calls-alike (a .run))) (a .run-with) in
+        abreast (scriptMeaning (scriptBy order ks)) g (o .3) (o .4) .0
 
     order-from-some : (f : Meaning) → KeepsLaw f → SomeRunAccepts d s f ks → HasSerializationOrder ks
     order-from-some f ke (g, ok) = subst HasSerializationOrder (g .whole) (accepted-calls-have-order V d s f j ke (g .log) (g .register) (g .meaning) (performed-run d s f (g .performed)) ok)

@@ -4,12 +4,13 @@ use mathlib.Core.Bool.{Bool, true, false, cond}
 use mathlib.Core.List.{List, [], _∷_, _++_}
 use Prim.Native.Nat.{ℕ, _≤_}
 use lib.ListN.{take}
+use Rattle.std.specs.Options.{isSome}
 use Rattle.std.specs.declared.option.Option.the-variants.{Some}
 use Rattle.terms.specs.declared.records.Ending.{Ending}
 use Rattle.terms.specs.declared.records.Ending.the-variants.{Committed, Abandoned}
 use Rattle.terms.specs.declared.records.Entry.{Entry}
 use Rattle.choosers.specs.Meaning.{Meaning, KeepsLaw}
-use Rattle.history.specs.Events.{History, isSome, byJobs, crewOf}
+use Rattle.history.specs.Events.{History, byJobs, crewOf}
 use Rattle.history.specs.Events.Operation.{opens}
 use Rattle.history.specs.Projections.{projection, isCommitted, endPlace}
 use Rattle.history.specs.Values.{observed}

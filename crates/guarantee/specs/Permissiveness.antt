@@ -1,7 +1,7 @@
 -- Permissiveness: a well made list of calls has a serialization order if and only if some script of places has the register accept every call of it.
 use mathlib.Core.Path.{_≡_}
 use mathlib.Core.Logic.{_↔_}
-use mathlib.Core.List.{List, []}
+use mathlib.Core.List.{List, reverse}
 use Prim.Native.Nat.{ℕ}
 use Rattle.std.specs.declared.result.Result.{Result}
 use Rattle.std.specs.declared.result.Result.the-variants.{Ok, Err}
@@ -11,7 +11,7 @@ use Rattle.choosers.specs.Script.{scriptMeaning}
 use Rattle.history.specs.Events.{byJobs}
 use Rattle.history.specs.Precedence.{Extends, SerializationOrder}
 use Rattle.history.specs.WellMade.{WellMadeList}
-use Rattle.history.specs.Acceptance.{position, positions, reverseOnto}
+use Rattle.history.specs.Acceptance.{position, positions}
 use Rattle.rules.specs.declared.calls.Call.{Call}
 use Rattle.rules.specs.declared.calls.Answer.{Answer}
 use Rattle.rules.specs.Heads.{Dimensions}
@@ -63,7 +63,7 @@ EveryRunAccepts {V} d s f ks = (log : List (Step V)) (r : Register V) (f′ : Me
 
 -- a script that has each job's position in the order, in the order of the jobs' endings
 abbrev pub scriptBy : {V : Type 0} → List ℕ → List (Call V) → List ℕ
-scriptBy order ks = reverseOnto (positions (position order) (eventsOf ks)) []
+scriptBy order ks = reverse (positions (position order) (eventsOf ks))
 
 pub record IsPermissive {V : Type 0} (d : V) (s : Register V) (ks : List (Call V)) : Type 0 where
   -- the list has a serialization order, if and only if there is a script with which some run accepts every call,

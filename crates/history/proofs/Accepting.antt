@@ -45,7 +45,8 @@ conflicts-to : {V : Type 0} (s : RegisterView V) (w u n : ℕ) → conflicts s w
 conflicts-to s w u zero e = absurd (both-ways false refl e)
 conflicts-to s w u (suc n) e = go (or-cases (s .hasRead u (suc n) && s .hasWritten w (suc n)) (conflicts s w u n) e) (conflicts-to s w u n)
   where
-    go : ((s .hasRead u (suc n) && s .hasWritten w (suc n)) ≡ true) ⊎ (conflicts s w u n ≡ true) → (conflicts s w u n ≡ true → (c : ℕ) × (s .hasRead u c ≡ true) × (s .hasWritten w c ≡ true)) → (c : ℕ) × (s .hasRead u c ≡ true) × (s .hasWritten w c ≡ true)
+    go : ((s .hasRead u (suc n) && s .hasWritten w (suc n)) ≡ true) ⊎ (conflicts s w u n ≡ true) →
+        (conflicts s w u n ≡ true → (c : ℕ) × (s .hasRead u c ≡ true) × (s .hasWritten w c ≡ true)) → (c : ℕ) × (s .hasRead u c ≡ true) × (s .hasWritten w c ≡ true)
     go (inl q) ih = let k = and-parts (s .hasRead u (suc n)) (s .hasWritten w (suc n)) q in (suc n, k .0, k .1)
     go (inr q) ih = ih q
 
@@ -127,7 +128,10 @@ module _ {V : Type 0} (top n : ℕ) (first : ℕ → V) (at : ℕ → ℕ) (run 
     new-within = f .within (suc (openings run)) (omega arith) (omega arith)
 
     new-above : s .highest < at (suc (openings run))
-    new-above = mark-below at _ (s .highest) (at (suc (openings run))) (new-within .0) (λ y e. f .rises y (suc (openings run)) (ended-other (byJobs run) (suc (openings run)) y (ap endPlace (unopened-projection (byJobs run) wf (suc (openings run)) (omega (arith, openings-by-job run)))) e) (real-time here e)) (fits .highest-is)
+    new-above =
+        mark-below at _ (s .highest) (at (suc (openings run))) (new-within .0)
+        (λ y e. f .rises y (suc (openings run)) (ended-other (byJobs run) (suc (openings run)) y (ap endPlace (unopened-projection (byJobs run) wf (suc (openings run)) (omega (arith, openings-by-job run)))) e) (real-time here e))
+        (fits .highest-is)
 
     open-accepted : Accepts top n s w opens
     open-accepted = (facts .job-is w ∙ j, omega (arith, new-above, new-within .1))
@@ -150,14 +154,18 @@ module _ {V : Type 0} (top n : ℕ) (first : ℕ → V) (at : ℕ → ℕ) (run 
         high u true a = omega (arith, new-within .1)
         high u false a = fits .high-is u a
 
-        flag : (u c : ℕ) (b : Bool) → eqb w u ≡ b → s .hasRead u c ≡ true → (1 ≤ cond b (suc (openings run)) (openJob run u)) × ReadGlobally (by (suc (openings run)) opens ∷ byJobs run) (cond b (suc (openings run)) (openJob run u)) c
+        flag : (u c : ℕ) (b : Bool) → eqb w u ≡ b → s .hasRead u c ≡ true →
+            (1 ≤ cond b (suc (openings run)) (openJob run u)) × ReadGlobally (by (suc (openings run)) opens ∷ byJobs run) (cond b (suc (openings run)) (openJob run u)) c
         flag u c true e q = absurd (omega (arith, fits .flag-is u c q .0, j, ap (openJob run) (eqb-true w u e)))
         flag u c false e q = flags-later (by (suc (openings run)) opens) u c q
 
   ---- read
   module _ (w c : ℕ) (v : V) (a : 1 ≤ openJob run w) (e : v ≡ cond (s .hasWritten w c) (s .own w c) (s .value c)) (f : RisingPlaces top at (by w (reads c v) ∷ run)) where
     written-below : s .hasWritten w c ≡ false → s .written c < at (openJob run w)
-    written-below q = mark-below at _ (s .written c) (at (openJob run w)) (omega (arith, fits .low-is w a)) (λ y k. f .rises y (openJob run w) (ended-other (byJobs run) (openJob run w) y (open-now w a) (committed-ended k)) (committed-read here (not-flag w c a q) k)) (fits .written-is c)
+    written-below q =
+        mark-below at _ (s .written c) (at (openJob run w)) (omega (arith, fits .low-is w a))
+        (λ y k. f .rises y (openJob run w) (ended-other (byJobs run) (openJob run w) y (open-now w a) (committed-ended k)) (committed-read here (not-flag w c a q) k))
+        (fits .written-is c)
 
     read-accepted : Accepts top n s w (reads c v)
     read-accepted = (job-of-open w a, e, λ q. omega (arith, written-below q, fits .low-is w a, fits .high-is w a))
@@ -184,11 +192,13 @@ module _ {V : Type 0} (top n : ℕ) (first : ℕ → V) (at : ℕ → ℕ) (run 
         inner true q t = flags-later (by (openJob run w) (reads c v)) w c t
         inner false q t = (a, record { value = v; before = byJobs run; occurs = here; unwritten = not-flag w c a q })
 
-        at-cell : (k : ℕ) (b : Bool) → eqb c k ≡ b → cond b (cond (s .hasWritten w c) (s .hasRead w c) true) (s .hasRead w k) ≡ true → (1 ≤ openJob run w) × ReadGlobally (by (openJob run w) (reads c v) ∷ byJobs run) (openJob run w) k
+        at-cell : (k : ℕ) (b : Bool) → eqb c k ≡ b → cond b (cond (s .hasWritten w c) (s .hasRead w c) true) (s .hasRead w k) ≡ true →
+            (1 ≤ openJob run w) × ReadGlobally (by (openJob run w) (reads c v) ∷ byJobs run) (openJob run w) k
         at-cell k true q t = subst (λ z. (1 ≤ openJob run w) × ReadGlobally (by (openJob run w) (reads c v) ∷ byJobs run) (openJob run w) z) (eqb-true c k q) (inner (s .hasWritten w c) refl t)
         at-cell k false q t = flags-later (by (openJob run w) (reads c v)) w k t
 
-        flag : (u k : ℕ) (b : Bool) → eqb w u ≡ b → cond b (updated (s .hasRead w) c (cond (s .hasWritten w c) (s .hasRead w c) true)) (s .hasRead u) k ≡ true → (1 ≤ openJob run u) × ReadGlobally (by (openJob run w) (reads c v) ∷ byJobs run) (openJob run u) k
+        flag : (u k : ℕ) (b : Bool) → eqb w u ≡ b → cond b (updated (s .hasRead w) c (cond (s .hasWritten w c) (s .hasRead w c) true)) (s .hasRead u) k ≡ true →
+            (1 ≤ openJob run u) × ReadGlobally (by (openJob run w) (reads c v) ∷ byJobs run) (openJob run u) k
         flag u k true q t = subst (λ z. (1 ≤ openJob run z) × ReadGlobally (by (openJob run w) (reads c v) ∷ byJobs run) (openJob run z) k) (eqb-true w u q) (at-cell k (eqb c k) refl t)
         flag u k false q t = flags-later (by (openJob run w) (reads c v)) u k t
 
@@ -213,7 +223,8 @@ module _ {V : Type 0} (top n : ℕ) (first : ℕ → V) (at : ℕ → ℕ) (run 
     ended-low u true l = absurd (omega arith)
     ended-low u false l = fits .low-is u l
 
-    ended-reads : (c : ℕ) (b : Bool) → s .hasRead w c ≡ b → Mark at (λ y. ReadGlobally (event ∷ byJobs run) y c × Ended (event ∷ byJobs run) y) (cond b (max (s .read c) (at (openJob run w))) (s .read c))
+    ended-reads : (c : ℕ) (b : Bool) → s .hasRead w c ≡ b →
+        Mark at (λ y. ReadGlobally (event ∷ byJobs run) y c × Ended (event ∷ byJobs run) y) (cond b (max (s .read c) (at (openJob run w))) (s .read c))
     ended-reads c true e = mark-max at _ (s .read c) (openJob run w) (flags-later event w c e .1, en) (reads-later event c)
     ended-reads c false e = reads-later event c
 
@@ -321,7 +332,14 @@ module _ {V : Type 0} (top n m : ℕ) (first : ℕ → V) (own : ℕ → ℕ →
   accepted-so-far : (cs : Calls V) → WellMade cs → InRange n m cs → RisingPlaces top at cs → AcceptedSoFar cs
   accepted-so-far [] wm r f = record {
     accepted = record { run = []; view = freshView first own; same-calls = refl; same-places = refl; view-run = starts };
-    fits = record { low-is = λ w a. absurd (omega arith); high-is = λ w a. absurd (omega arith); written-is = λ c. inl refl; read-is = λ c. inl refl; highest-is = inl refl; flag-is = λ w c q. absurd (both-ways false refl q) };
+    fits = record {
+      low-is = λ w a. absurd (omega arith);
+      high-is = λ w a. absurd (omega arith);
+      written-is = λ c. inl refl;
+      read-is = λ c. inl refl;
+      highest-is = inl refl;
+      flag-is = λ w c q. absurd (both-ways false refl q);
+    };
   }
   accepted-so-far (by w opens ∷ cs) wm r f =
       let g = accepted-so-far cs (wm .1) (r .2) (rising-tail top at w opens cs f) in

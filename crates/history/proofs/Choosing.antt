@@ -1,41 +1,34 @@
 -- A register that asks a chooser for its places: what it accepts has an order, and what has an order it accepts with a script.
 use mathlib.Core.Path.{_≡_, refl, sym, ap, subst}
-use mathlib.Core.List.{List, [], _∷_}
+use mathlib.Core.List.{List, [], _∷_, reverse, reverseAux}
 use mathlib.Core.Bool.{Bool, true, false, cond, not, _&&_}
 use mathlib.Core.Logic.{_↔_}
 use Prim.Native.Nat.{ℕ, zero, suc, _+_, _≤_, _<_, min, max}
 use native.Mathlib.Omega.{arith}
-use lib.Dec.{eqb, leb, ltb}
-use Rattle.std.proofs.shelf.Tests.{eqb-true, eqb-false, ne-eqb, both-ways, leb-true, le-leb, le-ltb, lt-ltb, ltb-true, and-parts, and-from}
+use lib.Dec.{eqb, leb}
+use Rattle.std.proofs.shelf.Tests.{eqb-true, eqb-false, ne-eqb, both-ways, leb-true, le-leb, le-ltb, lt-ltb, and-parts}
+use Rattle.choosers.specs.Meaning.{Meaning, KeepsLaw, movedOn}
+use Rattle.choosers.specs.Script.{scriptMeaning}
+use Rattle.choosers.specs.Lawful.{script-lawful}
+use Rattle.choosers.proofs.Moves.{moved-lawful, moved-with-room}
 use Rattle.history.specs.Events.{Operation, Events, History, openings, openJob, byJobs}
 use Rattle.history.specs.Events.Operation.{opens, reads, writes, commits, abandons}
 use Rattle.history.specs.Events.Event.{by}
 use Rattle.history.specs.Precedence.{SerializationOrder}
 use Rattle.history.specs.WellMade.{Calls, UpTo, InRange, WellMadeList}
 use Rattle.history.specs.Views.{RegisterView, conflicts, Accepts, viewAfter, ViewRun}
-use Rattle.history.specs.Acceptance.{placesOf, position, positions, Chooser, KeepsLaw, nextFitted, scriptChooser, reverseOnto, cellsLowerBound, isOpenReader, readersLowerBound, commitLowerBound, Sizes, AtWork, AcceptsWith, RunWith, AcceptedWith}
+use Rattle.history.specs.Acceptance.{placesOf, position, positions, cellsLowerBound, isOpenReader, readersLowerBound, commitLowerBound, Sizes, AtWork, AcceptsWith, meaningAfter, RunWith, AcceptedWith}
 use Rattle.history.proofs.Crews.{openings-tail}
 use Rattle.history.proofs.Viewing.{RunFacts, run-facts}
 use Rattle.history.proofs.Alike.{Alike, alike-sym, openings-alike, range-alike, calls-alike}
 use Rattle.history.proofs.Permissiveness.{positions-accepted, accepted-has-order}
 
-script-between : (ks : List ℕ) (low high : ℕ) → low + 2 ≤ high → (low < nextFitted ks low high) × (nextFitted ks low high < high)
-script-between [] low high l = (omega arith, omega arith)
-script-between (k ∷ ks) low high l = go (ltb low k && ltb k high) refl
-  where
-    go : (b : Bool) → (ltb low k && ltb k high) ≡ b → (low < cond b k (low + 1)) × (cond b k (low + 1) < high)
-    go true e = let p = and-parts (ltb low k) (ltb k high) e in (ltb-true low k (p .0), ltb-true k high (p .1))
-    go false e = (omega arith, omega arith)
+-- a number of the script that lies between the bounds is given, and used up
+script-gives : (k : ℕ) (ks : List ℕ) (low high : ℕ) → low < k → k < high → scriptMeaning (k ∷ ks) [] low high ≡ k
+script-gives k ks low high l u = rw (le-ltb high (low + 2) (omega arith), lt-ltb low k l, lt-ltb k high u) refl
 
-pub script-keeps-law : KeepsLaw scriptChooser
-script-keeps-law = record {
-  between = λ ks low high l. rw (le-ltb high (low + 2) l) (script-between ks low high l);
-  unmoved-without-room = λ ks low high l. rw (lt-ltb high (low + 2) l) (refl, refl);
-}
-
--- a number of the script that lies between the bounds is given
-script-gives : (k : ℕ) (ks : List ℕ) (low high : ℕ) → low < k → k < high → (scriptChooser .gives (k ∷ ks) low high ≡ k) × (scriptChooser .next (k ∷ ks) low high ≡ ks)
-script-gives k ks low high l u = rw (le-ltb high (low + 2) (omega arith), and-from (ltb low k) (ltb k high) (lt-ltb low k l) (lt-ltb k high u)) (refl, refl)
+script-left : (k : ℕ) (ks : List ℕ) (low high : ℕ) → low < k → k < high → movedOn (scriptMeaning (k ∷ ks)) low high ≡ scriptMeaning ks
+script-left k ks low high l u = sym (moved-with-room (k ∷ ks) low high (le-ltb high (low + 2) (omega arith)))
 
 ---- The low bound that a commit asks for is above each of its parts, and below what is above all of them
 module _ {V : Type 0} (n : ℕ) (s : RegisterView V) (w : ℕ) where
@@ -56,7 +49,8 @@ module _ {V : Type 0} (n : ℕ) (s : RegisterView V) (w : ℕ) where
   cell-below-bound zero c l u q = absurd (omega arith)
   cell-below-bound (suc n) c l u q = go (eqb c (suc n)) refl (cell-below-bound n c l)
     where
-      go : (b : Bool) → eqb c (suc n) ≡ b → (c ≤ n → s .hasWritten w c ≡ true → (s .written c ≤ cellsLowerBound s w n) × (s .read c ≤ cellsLowerBound s w n)) → (s .written c ≤ cellsLowerBound s w (suc n)) × (s .read c ≤ cellsLowerBound s w (suc n))
+      go : (b : Bool) → eqb c (suc n) ≡ b → (c ≤ n → s .hasWritten w c ≡ true → (s .written c ≤ cellsLowerBound s w n) × (s .read c ≤ cellsLowerBound s w n)) →
+          (s .written c ≤ cellsLowerBound s w (suc n)) × (s .read c ≤ cellsLowerBound s w (suc n))
       go true e ih = rw (← eqb-true c (suc n) e, q) (omega arith, omega arith)
       go false e ih = let k = ih (omega (arith, eqb-false c (suc n) e)) q in (omega arith, omega arith)
 
@@ -103,38 +97,57 @@ job-range n m (by w (abandons p) ∷ run) r u a = ended-range m (openJob run u) 
 
 module _ {V : Type 0} (z : Sizes) (first : ℕ → V) (own : ℕ → ℕ → V) where
   ---- What is accepted with a chooser is accepted at the places that it gave
-  module _ {C : Type 0} (ch : Chooser C) (fair : KeepsLaw ch) where
-    with-accepts : (k : C) (run : History V) (s : RegisterView V) → RunFacts (z .top) (z .cells) first run s → InRange (z .cells) (z .crews) run → (w : ℕ) (d : Operation V V ℕ) → AcceptsWith ch z k s w d → Accepts (z .top) (z .cells) s w d
-    with-accepts k run s holds r w opens sv = (sv .1, sv .2)
-    with-accepts k run s holds r w (reads c v) sv = (sv .0 .a-job, sv .2, sv .3)
-    with-accepts k run s holds r w (writes c v) sv = (sv .0 .a-job, sv .1 .0, sv .1 .1)
-    with-accepts k run s holds r w (commits p) sv = (sv .0 .a-job, omega arith, omega arith, cells, crews)
+  module _ (f : Meaning) (law : KeepsLaw f) where
+    with-accepts : (run : History V) (s : RegisterView V) → RunFacts (z .top) (z .cells) first run s → InRange (z .cells) (z .crews) run → (w : ℕ) (d : Operation V V ℕ) →
+        AcceptsWith f z s w d → Accepts (z .top) (z .cells) s w d
+    with-accepts run s holds r w opens sv = (sv .1, sv .2)
+    with-accepts run s holds r w (reads c v) sv = (sv .0 .a-job, sv .2, sv .3)
+    with-accepts run s holds r w (writes c v) sv = (sv .0 .a-job, sv .1 .0, sv .1 .1)
+    with-accepts run s holds r w (commits p) sv = (sv .0 .a-job, omega arith, omega arith, cells, crews)
       where
         between : (commitLowerBound (z .cells) (z .crews) s w < p) × (p < s .high w)
-        between = rw (sv .2) (fair .between k (commitLowerBound (z .cells) (z .crews) s w) (s .high w) (sv .1))
+        between = rw (sv .2) (law .between [] (commitLowerBound (z .cells) (z .crews) s w) (s .high w) (sv .1))
 
         cells : (c : ℕ) → s .hasWritten w c ≡ true → (s .written c < p) × (s .read c < p)
         cells c q = let i = holds .view-facts .range w c q in let f = cell-below-bound (z .cells) s w (z .cells) c (i .0) (i .1) q in let b = between in (omega arith, omega arith)
 
         crews : (u : ℕ) → (u ≡ w → ⊥) → 1 ≤ s .job u → conflicts s w u (z .cells) ≡ true → s .low u + 1 < p
-        crews u ne j q = let i = job-range (z .cells) (z .crews) run r u (rw (← holds .view-facts .job-is u) j) in let f = reader-below-bound (z .cells) s w (z .crews) u (i .0) (i .1) (reader-yes (z .cells) s w u ne j q) in let b = between in omega arith
-    with-accepts k run s holds r w (abandons p) sv = let b = fair .between k (s .low w) (s .high w) (sv .0 .room) in (sv .0 .a-job, rw (sv .1) (b .0), rw (sv .1) (b .1))
+        crews u ne j q =
+            let i = job-range (z .cells) (z .crews) run r u (rw (← holds .view-facts .job-is u) j) in
+            let f = reader-below-bound (z .cells) s w (z .crews) u (i .0) (i .1) (reader-yes (z .cells) s w u ne j q) in
+            let b = between in
+            omega arith
+    with-accepts run s holds r w (abandons p) sv = let b = law .between [] (s .low w) (s .high w) (sv .0 .room) in (sv .0 .a-job, rw (sv .1) (b .0), rw (sv .1) (b .1))
 
-    with-in-range : (k : C) (run : History V) (s : RegisterView V) → InRange (z .cells) (z .crews) run → (w : ℕ) (d : Operation V V ℕ) → AcceptsWith ch z k s w d → InRange (z .cells) (z .crews) (by w d ∷ run)
-    with-in-range k run s r w opens sv = (sv .0, tt, r)
-    with-in-range k run s r w (reads c v) sv = (sv .0 .a-crew, sv .1, r)
-    with-in-range k run s r w (writes c v) sv = (sv .0 .a-crew, sv .1, r)
-    with-in-range k run s r w (commits p) sv = (sv .0 .a-crew, tt, r)
-    with-in-range k run s r w (abandons p) sv = (sv .0 .a-crew, tt, r)
+    with-in-range : (run : History V) (s : RegisterView V) → InRange (z .cells) (z .crews) run → (w : ℕ) (d : Operation V V ℕ) → AcceptsWith f z s w d → InRange (z .cells) (z .crews) (by w d ∷ run)
+    with-in-range run s r w opens sv = (sv .0, tt, r)
+    with-in-range run s r w (reads c v) sv = (sv .0 .a-crew, sv .1, r)
+    with-in-range run s r w (writes c v) sv = (sv .0 .a-crew, sv .1, r)
+    with-in-range run s r w (commits p) sv = (sv .0 .a-crew, tt, r)
+    with-in-range run s r w (abandons p) sv = (sv .0 .a-crew, tt, r)
 
-    pub run-with-view-run : {k₀ : C} {run : History V} {s : RegisterView V} {k : C} → RunWith ch z first own k₀ run s k → ViewRun (z .top) (z .cells) first own run s × InRange (z .cells) (z .crews) run
+    after-lawful : (s : RegisterView V) (w : ℕ) (d : Operation V V ℕ) → KeepsLaw (meaningAfter f z s w d)
+    after-lawful s w opens = law
+    after-lawful s w (reads c v) = law
+    after-lawful s w (writes c v) = law
+    after-lawful s w (commits p) = moved-lawful f (commitLowerBound (z .cells) (z .crews) s w) (s .high w) law
+    after-lawful s w (abandons p) = moved-lawful f (s .low w) (s .high w) law
+
+  module _ (f₀ : Meaning) (law : KeepsLaw f₀) where
+    run-lawful : {run : History V} {s : RegisterView V} {f : Meaning} → RunWith f₀ z first own run s f → KeepsLaw f
+    run-lawful RunWith.starts = law
+    run-lawful (RunWith.goes-on {s = s} {f = f} {w = w} {o = d} g sv) = after-lawful f (run-lawful g) s w d
+
+    pub run-with-view-run : {run : History V} {s : RegisterView V} {f : Meaning} → RunWith f₀ z first own run s f → ViewRun (z .top) (z .cells) first own run s × InRange (z .cells) (z .crews) run
     run-with-view-run RunWith.starts = (ViewRun.starts, tt)
-    run-with-view-run (RunWith.goes-on {run = run} {s = s} {k = k} {w = w} {o = d} g sv) =
+    run-with-view-run (RunWith.goes-on {run = run} {s = s} {f = f} {w = w} {o = d} g sv) =
         let i = run-with-view-run g in
-        (ViewRun.goes-on (i .0) (with-accepts k run s (run-facts (z .top) (z .cells) first own (i .0)) (i .1) w d sv), with-in-range k run s (i .1) w d sv)
+        let l = run-lawful g in
+        (ViewRun.goes-on (i .0) (with-accepts f l run s (run-facts (z .top) (z .cells) first own (i .0)) (i .1) w d sv), with-in-range f l run s (i .1) w d sv)
 
-    pub chosen-has-order : (k₀ : C) (cs : Calls V) → 2 ≤ z .top → AcceptedWith ch z first own k₀ cs → (row : List ℕ) × SerializationOrder (byJobs cs) row
-    chosen-has-order k₀ cs t a = accepted-has-order first own (z .top) (z .cells) cs (placesOf (a .run)) t (record { run = a .run; view = a .view; same-calls = a .same-calls; same-places = refl; view-run = run-with-view-run (a .run-with) .0 })
+    pub chosen-has-order : (cs : Calls V) → 2 ≤ z .top → AcceptedWith f₀ z first own cs → (row : List ℕ) × SerializationOrder (byJobs cs) row
+    chosen-has-order cs t a = accepted-has-order first own (z .top) (z .cells) cs (placesOf (a .run)) t
+        (record { run = a .run; view = a .view; same-calls = a .same-calls; same-places = refl; view-run = run-with-view-run (a .run-with) .0 })
 
   ---- What is accepted at given places is accepted with the script of them
   high-step : (s : RegisterView V) → ((u : ℕ) → s .high u ≤ z .top) → (w : ℕ) (d : Operation V V ℕ) (u : ℕ) → viewAfter (z .top) (z .cells) s w d .high u ≤ z .top
@@ -162,43 +175,54 @@ module _ {V : Type 0} (z : Sizes) (first : ℕ → V) (own : ℕ → ℕ → V) 
   high-below (ViewRun.goes-on {s = s} {w = w} {o = d} g ac) u = high-step s (high-below g) w d u
 
   abbrev ByScript : History V → RegisterView V → Type 0
-  ByScript run s = (qs : List ℕ) → RunWith scriptChooser z first own (reverseOnto (placesOf run) qs) run s qs
+  ByScript run s = (qs : List ℕ) → RunWith (scriptMeaning (reverseAux (placesOf run) qs)) z first own run s (scriptMeaning qs)
 
   at-work : (run : History V) (s : RegisterView V) → RunFacts (z .top) (z .cells) first run s → ((u : ℕ) → s .high u ≤ z .top) → (w : ℕ) → UpTo (z .crews) w → 1 ≤ s .job w → AtWork z s w
   at-work run s holds hb w c j = record { a-crew = c; a-job = j; room = holds .view-facts .room w (rw (← holds .view-facts .job-is w) j); below-top = hb w }
 
-  accepts-by-script : (run : History V) (s : RegisterView V) → RunFacts (z .top) (z .cells) first run s → ((u : ℕ) → s .high u ≤ z .top) → (w : ℕ) (d : Operation V V ℕ) → Accepts (z .top) (z .cells) s w d → InRange (z .cells) (z .crews) (by w d ∷ run) → openings (by w d ∷ run) ≤ z .entries → ByScript run s → ByScript (by w d ∷ run) (viewAfter (z .top) (z .cells) s w d)
+  accepts-by-script : (run : History V) (s : RegisterView V) → RunFacts (z .top) (z .cells) first run s → ((u : ℕ) → s .high u ≤ z .top) → (w : ℕ) (d : Operation V V ℕ) →
+      Accepts (z .top) (z .cells) s w d → InRange (z .cells) (z .crews) (by w d ∷ run) → openings (by w d ∷ run) ≤ z .entries → ByScript run s →
+      ByScript (by w d ∷ run) (viewAfter (z .top) (z .cells) s w d)
   accepts-by-script run s holds hb w opens ac r f ih qs = RunWith.goes-on (ih qs) (r .0, ac .0, ac .1, rw (holds .view-facts .opened-is) f)
   accepts-by-script run s holds hb w (reads c v) ac r f ih qs = RunWith.goes-on (ih qs) (at-work run s holds hb w (r .0) (ac .0), r .1, ac .1, ac .2)
   accepts-by-script run s holds hb w (writes c v) ac r f ih qs = RunWith.goes-on (ih qs) (at-work run s holds hb w (r .0) (ac .0), r .1)
   accepts-by-script run s holds hb w (commits p) ac r f ih qs =
-      let l : commitLowerBound (z .cells) (z .crews) s w < p = omega (arith, ac .1, cells-bound-below (z .cells) s w p (z .cells) (omega (arith, ac .1)) (ac .3), readers-bound-below (z .cells) s w p (z .crews) (omega (arith, ac .1)) (ac .4)) in
-      let g = script-gives p qs (commitLowerBound (z .cells) (z .crews) s w) (s .high w) l (ac .2) in
-      subst (λ k. RunWith scriptChooser z first own (reverseOnto (placesOf run) (p ∷ qs)) (by w (commits p) ∷ run) (viewAfter (z .top) (z .cells) s w (commits p)) k) (g .1)
-      (RunWith.goes-on (ih (p ∷ qs)) (at-work run s holds hb w (r .0) (ac .0), omega (arith, l, ac .2), sym (g .0)))
+      let cells = cells-bound-below (z .cells) s w p (z .cells) (omega (arith, ac .1)) (ac .3) in
+      let readers = readers-bound-below (z .cells) s w p (z .crews) (omega (arith, ac .1)) (ac .4) in
+      let l : commitLowerBound (z .cells) (z .crews) s w < p = omega (arith, ac .1, cells, readers) in
+      subst (λ f. RunWith (scriptMeaning (reverseAux (placesOf run) (p ∷ qs))) z first own (by w (commits p) ∷ run) (viewAfter (z .top) (z .cells) s w (commits p)) f)
+      (script-left p qs (commitLowerBound (z .cells) (z .crews) s w) (s .high w) l (ac .2))
+      (RunWith.goes-on (ih (p ∷ qs)) (at-work run s holds hb w (r .0) (ac .0), omega (arith, l, ac .2), sym (script-gives p qs (commitLowerBound (z .cells) (z .crews) s w) (s .high w) l (ac .2))))
   accepts-by-script run s holds hb w (abandons p) ac r f ih qs =
-      let g = script-gives p qs (s .low w) (s .high w) (ac .1) (ac .2) in
-      subst (λ k. RunWith scriptChooser z first own (reverseOnto (placesOf run) (p ∷ qs)) (by w (abandons p) ∷ run) (viewAfter (z .top) (z .cells) s w (abandons p)) k) (g .1)
-      (RunWith.goes-on (ih (p ∷ qs)) (at-work run s holds hb w (r .0) (ac .0), sym (g .0)))
+      subst (λ f. RunWith (scriptMeaning (reverseAux (placesOf run) (p ∷ qs))) z first own (by w (abandons p) ∷ run) (viewAfter (z .top) (z .cells) s w (abandons p)) f)
+      (script-left p qs (s .low w) (s .high w) (ac .1) (ac .2))
+      (RunWith.goes-on (ih (p ∷ qs)) (at-work run s holds hb w (r .0) (ac .0), sym (script-gives p qs (s .low w) (s .high w) (ac .1) (ac .2))))
 
   range-tail : (w : ℕ) (d : Operation V V ℕ) (run : History V) → InRange (z .cells) (z .crews) (by w d ∷ run) → InRange (z .cells) (z .crews) run
   range-tail w d run r = r .2
 
   view-run-by-script : {run : History V} {s : RegisterView V} → ViewRun (z .top) (z .cells) first own run s → InRange (z .cells) (z .crews) run → openings run ≤ z .entries → ByScript run s
   view-run-by-script ViewRun.starts r f = λ qs. RunWith.starts
-  view-run-by-script (ViewRun.goes-on {run = run} {s = s} {w = w} {o = d} g ac) r f = accepts-by-script run s (run-facts (z .top) (z .cells) first own g) (high-below g) w d ac r f (view-run-by-script g (range-tail w d run r) (omega (arith, openings-tail w d run, f)))
+  view-run-by-script (ViewRun.goes-on {run = run} {s = s} {w = w} {o = d} g ac) r f =
+      accepts-by-script run s (run-facts (z .top) (z .cells) first own g) (high-below g) w d ac r f (view-run-by-script g (range-tail w d run r) (omega (arith, openings-tail w d run, f)))
 
-  pub positions-script : (cs : Calls V) → z .entries + 2 ≤ z .top → WellMadeList (z .cells) (z .crews) (z .entries) cs → (row : List ℕ) → SerializationOrder (byJobs cs) row → AcceptedWith scriptChooser z first own (reverseOnto (positions (position row) cs) []) cs
+  pub positions-script : (cs : Calls V) → z .entries + 2 ≤ z .top → WellMadeList (z .cells) (z .crews) (z .entries) cs → (row : List ℕ) →
+      SerializationOrder (byJobs cs) row → AcceptedWith (scriptMeaning (reverse (positions (position row) cs))) z first own cs
   positions-script cs t wl row l =
       let a = positions-accepted first own (z .top) (z .cells) (z .crews) (z .entries) cs t wl row l in
       let k = subst (λ y. Alike (a .run) y) (a .same-calls) (calls-alike (a .run)) in
       record {
         run = a .run;
         view = a .view;
-        state = [];
+        meaning = scriptMeaning [];
         same-calls = a .same-calls;
-        run-with = subst (λ ps. RunWith scriptChooser z first own (reverseOnto ps []) (a .run) (a .view) []) (a .same-places) (view-run-by-script (a .view-run) (range-alike (z .cells) (z .crews) (alike-sym k) (wl .in-range)) (rw (openings-alike k) (wl .entries-suffice)) []);
+        run-with = subst (λ ps. RunWith (scriptMeaning (reverse ps)) z first own (a .run) (a .view) (scriptMeaning [])) (a .same-places)
+            (view-run-by-script (a .view-run) (range-alike (z .cells) (z .crews) (alike-sym k) (wl .in-range)) (rw (openings-alike k) (wl .entries-suffice)) []);
       }
 
-pub scripts-permissive : {V : Type 0} (first : ℕ → V) (own : ℕ → ℕ → V) (z : Sizes) (cs : Calls V) → z .entries + 2 ≤ z .top → WellMadeList (z .cells) (z .crews) (z .entries) cs → ((row : List ℕ) × SerializationOrder (byJobs cs) row) ↔ ((numbers : List ℕ) × AcceptedWith scriptChooser z first own numbers cs)
-scripts-permissive first own z cs t wl = ((λ l. (reverseOnto (positions (position (l .0)) cs) [], positions-script z first own cs t wl (l .0) (l .1))), (λ a. chosen-has-order z first own scriptChooser script-keeps-law (a .0) cs (omega arith) (a .1)))
+pub scripts-permissive : {V : Type 0} (first : ℕ → V) (own : ℕ → ℕ → V) (z : Sizes) (cs : Calls V) → z .entries + 2 ≤ z .top → WellMadeList (z .cells) (z .crews) (z .entries) cs →
+    ((row : List ℕ) × SerializationOrder (byJobs cs) row) ↔ ((numbers : List ℕ) × AcceptedWith (scriptMeaning numbers) z first own cs)
+scripts-permissive first own z cs t wl = (
+  (λ l. (reverse (positions (position (l .0)) cs), positions-script z first own cs t wl (l .0) (l .1))),
+  (λ a. chosen-has-order z first own (scriptMeaning (a .0)) (script-lawful (a .0)) cs (omega arith) (a .1)),
+)

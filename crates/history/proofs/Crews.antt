@@ -48,7 +48,9 @@ module _ {V : Type 0} where
   one-crew [] w u a e = absurd (omega arith)
   one-crew (by k opens ∷ run) w u a e = go (eqb k w) (eqb k u) refl refl a e (open-job-numbered run w) (open-job-numbered run u) (one-crew run w u)
     where
-      go : (x y : Bool) → eqb k w ≡ x → eqb k u ≡ y → 1 ≤ cond x (suc (openings run)) (openJob run w) → cond x (suc (openings run)) (openJob run w) ≡ cond y (suc (openings run)) (openJob run u) → openJob run w ≤ openings run → openJob run u ≤ openings run → (1 ≤ openJob run w → openJob run w ≡ openJob run u → w ≡ u) → w ≡ u
+      go : (x y : Bool) → eqb k w ≡ x → eqb k u ≡ y → 1 ≤ cond x (suc (openings run)) (openJob run w) →
+          cond x (suc (openings run)) (openJob run w) ≡ cond y (suc (openings run)) (openJob run u) → openJob run w ≤ openings run → openJob run u ≤ openings run →
+          (1 ≤ openJob run w → openJob run w ≡ openJob run u → w ≡ u) → w ≡ u
       go true true p q a e l m ih = sym (eqb-true k w p) ∙ eqb-true k u q
       go true false p q a e l m ih = absurd (omega arith)
       go false true p q a e l m ih = absurd (omega arith)
@@ -63,7 +65,9 @@ module _ {V : Type 0} where
   active-either s t false p q = q
 
   -- an ending of crew u leaves the job of another crew as it was
-  still-open-active : (run : History V) (u w : ℕ) (o : Operation V V ℕ) (b : Bool) → eqb u w ≡ b → 1 ≤ cond b 0 (openJob run w) → (1 ≤ openJob run w → isActive (projection (byJobs run) (openJob run w)) ≡ true) → isActive (projection (by (openJob run u) o ∷ byJobs run) (cond b 0 (openJob run w))) ≡ true
+  still-open-active : (run : History V) (u w : ℕ) (o : Operation V V ℕ) (b : Bool) → eqb u w ≡ b → 1 ≤ cond b 0 (openJob run w) →
+      (1 ≤ openJob run w → isActive (projection (byJobs run) (openJob run w)) ≡ true) →
+      isActive (projection (by (openJob run u) o ∷ byJobs run) (cond b 0 (openJob run w))) ≡ true
   still-open-active run u w o true e a ih = absurd (omega arith)
   still-open-active run u w o false e a ih = rw (ne-eqb (openJob run u) (openJob run w) (λ q. eqb-false u w e (sym (one-crew run w u a (sym q))))) (ih a)
 
@@ -72,7 +76,9 @@ module _ {V : Type 0} where
   open-job-active [] w a = absurd (omega arith)
   open-job-active (by u opens ∷ run) w a = go (eqb u w) a (open-job-numbered run w) (open-job-active run w)
     where
-      go : (b : Bool) → 1 ≤ cond b (suc (openings run)) (openJob run w) → openJob run w ≤ openings run → (1 ≤ openJob run w → isActive (projection (byJobs run) (openJob run w)) ≡ true) → isActive (projection (by (suc (openings run)) opens ∷ byJobs run) (cond b (suc (openings run)) (openJob run w))) ≡ true
+      go : (b : Bool) → 1 ≤ cond b (suc (openings run)) (openJob run w) → openJob run w ≤ openings run →
+          (1 ≤ openJob run w → isActive (projection (byJobs run) (openJob run w)) ≡ true) →
+          isActive (projection (by (suc (openings run)) opens ∷ byJobs run) (cond b (suc (openings run)) (openJob run w))) ≡ true
       go true a l ih = rw (eq-eqb (suc (openings run)) (suc (openings run)) refl)
       go false a l ih = rw (ne-eqb (suc (openings run)) (openJob run w) (λ e. omega arith)) (ih a)
   open-job-active (by u (reads c v) ∷ run) w a = let ih = open-job-active run w a in active-either _ _ (eqb (openJob run u) (openJob run w)) ih ih
@@ -100,7 +106,8 @@ module _ {V : Type 0} where
   crew-of-open-job [] w a = absurd (omega arith)
   crew-of-open-job (by u opens ∷ run) w a = go (eqb u w) refl a (open-job-numbered run w) (crew-of-open-job run w)
     where
-      go : (b : Bool) → eqb u w ≡ b → 1 ≤ cond b (suc (openings run)) (openJob run w) → openJob run w ≤ openings run → (1 ≤ openJob run w → crewOf run (openJob run w) ≡ w) → crewOf (by u opens ∷ run) (cond b (suc (openings run)) (openJob run w)) ≡ w
+      go : (b : Bool) → eqb u w ≡ b → 1 ≤ cond b (suc (openings run)) (openJob run w) → openJob run w ≤ openings run →
+          (1 ≤ openJob run w → crewOf run (openJob run w) ≡ w) → crewOf (by u opens ∷ run) (cond b (suc (openings run)) (openJob run w)) ≡ w
       go true e a l ih = rw (eq-eqb (suc (openings run)) (suc (openings run)) refl) (eqb-true u w e)
       go false e a l ih = rw (ne-eqb (suc (openings run)) (openJob run w) (λ q. omega arith)) (ih a)
   crew-of-open-job (by u (reads c v) ∷ run) w a = crew-of-open-job run w a
@@ -112,7 +119,9 @@ module _ {V : Type 0} where
   active-positive run wm zero o = absurd (both-ways (isActive (projection (byJobs run) 0)) (ap isActive (projection-zero (byJobs run) (well-formed run wm))) o)
   active-positive run wm (suc x) o = omega arith
 
-  ended-crew : (run : History V) (u x j : ℕ) (d : Operation V V ℕ) → ((s : List (Operation V V ℕ)) → isActive (d ∷ s) ≡ false) → openJob run u ≡ j → (b : Bool) → eqb j x ≡ b → isActive (cond b (d ∷ projection (byJobs run) x) (projection (byJobs run) x)) ≡ true → (isActive (projection (byJobs run) x) ≡ true → openJob run (crewOf run x) ≡ x) → cond (eqb u (crewOf run x)) 0 (openJob run (crewOf run x)) ≡ x
+  ended-crew : (run : History V) (u x j : ℕ) (d : Operation V V ℕ) → ((s : List (Operation V V ℕ)) → isActive (d ∷ s) ≡ false) → openJob run u ≡ j → (b : Bool) →
+      eqb j x ≡ b → isActive (cond b (d ∷ projection (byJobs run) x) (projection (byJobs run) x)) ≡ true →
+      (isActive (projection (byJobs run) x) ≡ true → openJob run (crewOf run x) ≡ x) → cond (eqb u (crewOf run x)) 0 (openJob run (crewOf run x)) ≡ x
   ended-crew run u x j d over q true e o ih = absurd (both-ways (isActive (d ∷ projection (byJobs run) x)) (over (projection (byJobs run) x)) o)
   ended-crew run u x j d over q false e o ih = rw (ne-eqb u (crewOf run x) (λ k. eqb-false j x e (sym q ∙ (ap (openJob run) k ∙ ih o)))) (ih o)
 
@@ -124,7 +133,8 @@ module _ {V : Type 0} where
   active-has-crew [] wm x o = absurd (both-ways false refl o)
   active-has-crew (by u opens ∷ run) wm x o = go (eqb (suc (openings run)) x) refl o (active-has-crew run (wm .1) x)
     where
-      go : (b : Bool) → eqb (suc (openings run)) x ≡ b → isActive (cond b (opens ∷ projection (byJobs run) x) (projection (byJobs run) x)) ≡ true → (isActive (projection (byJobs run) x) ≡ true → openJob run (crewOf run x) ≡ x) → openJob (by u opens ∷ run) (cond b u (crewOf run x)) ≡ x
+      go : (b : Bool) → eqb (suc (openings run)) x ≡ b → isActive (cond b (opens ∷ projection (byJobs run) x) (projection (byJobs run) x)) ≡ true →
+          (isActive (projection (byJobs run) x) ≡ true → openJob run (crewOf run x) ≡ x) → openJob (by u opens ∷ run) (cond b u (crewOf run x)) ≡ x
       go true e o ih = rw (eq-eqb u u refl) (eqb-true (suc (openings run)) x e)
       go false e o ih = rw (ne-eqb u (crewOf run x) (λ k. omega (arith, active-positive run (wm .1) x o, wm .0, ap (openJob run) k ∙ ih o))) (ih o)
   active-has-crew (by u (reads c v) ∷ run) wm x o = active-has-crew run (wm .1) x (still-active (reads c v ∷ projection (byJobs run) x) (projection (byJobs run) x) (eqb (openJob run u) x) refl o)

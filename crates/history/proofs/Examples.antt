@@ -7,6 +7,9 @@ use Prim.Native.Nat.{ℕ, _^_, _≤_}
 use native.Mathlib.Omega.{arith}
 use lib.Dec.{eqb, lit≤}
 use Rattle.std.proofs.shelf.Tests.{eqb-true, eqb-false, both-ways}
+use Rattle.choosers.specs.Meaning.{Meaning}
+use Rattle.choosers.specs.Script.{scriptMeaning}
+use Rattle.choosers.specs.Lawful.{script-lawful}
 use Rattle.history.specs.Events.{Operation, Events, History, openings, byJobs}
 use Rattle.history.specs.Events.Operation.{opens, reads, writes, commits}
 use Rattle.history.specs.Events.Event.{by}
@@ -18,7 +21,7 @@ use Rattle.history.specs.SerialExecution.{executeJob, executeSerially, Seriall
 use Rattle.history.specs.WellMade.{WellMade, Calls, callsOf}
 use Rattle.history.specs.Bounds.{Placed, sortKey, Ascending, Bounds, boundsByJob}
 use Rattle.history.specs.Views.{RegisterView, boundsOf}
-use Rattle.history.specs.Acceptance.{scriptChooser, RunWith, AcceptedWith}
+use Rattle.history.specs.Acceptance.{RunWith, AcceptedWith}
 use Rattle.history.specs.Acceptance.RunWith.{starts, goes-on}
 use Rattle.history.specs.Examples.{firstValues, small, crossedReads, CrossedReadsHaveNoOrder, overtaking, OvertakingHasAnOrder, readSkew, ReadSkewIsNotExplained, inTurn, atOnce, RealTimeIsKept}
 use Rattle.history.proofs.Rows.{one-way, in-later, in-cases, in-nil, in-head}
@@ -26,7 +29,7 @@ use Rattle.history.proofs.Ordering.{ascending-is-order, orders-explain}
 use Rattle.history.proofs.Crews.{well-formed}
 use Rattle.history.proofs.Viewing.{views-agree}
 use Rattle.history.proofs.Alike.{answers-aside}
-use Rattle.history.proofs.Choosing.{script-keeps-law, run-with-view-run, chosen-has-order}
+use Rattle.history.proofs.Choosing.{run-with-view-run, chosen-has-order}
 
 ---- Two jobs that precede each other have no order
 
@@ -54,10 +57,13 @@ unwritten-2 w = go (w .occurs)
     go (later (later (later s))) = elim s [ ]
 
 crossed-12 : Precedes (byJobs crossedReads) 1 2
-crossed-12 = read-committed {c = 1} here (record { value = 6; before = _; occurs = later here }) (record { value = tt; before = opened; occurs = later (later (later (later here))); unwritten = unwritten-1 })
+crossed-12 =
+    read-committed {c = 1} here (record { value = 6; before = _; occurs = later here }) (record { value = tt; before = opened; occurs = later (later (later (later here))); unwritten = unwritten-1 })
 
 crossed-21 : Precedes (byJobs crossedReads) 2 1
-crossed-21 = read-committed {c = 2} (later here) (record { value = 5; before = _; occurs = later here }) (record { value = tt; before = by 1 (reads 1 tt) ∷ opened; occurs = later (later here); unwritten = unwritten-2 })
+crossed-21 =
+    read-committed {c = 2} (later here) (record { value = 5; before = _; occurs = later here })
+    (record { value = tt; before = by 1 (reads 1 tt) ∷ opened; occurs = later (later here); unwritten = unwritten-2 })
 
 pub crossed-reads : CrossedReadsHaveNoOrder
 crossed-reads = record {
@@ -69,8 +75,8 @@ crossed-reads = record {
   one-before-two = crossed-12;
   two-before-one = crossed-21;
   no-order = no-order (byJobs crossedReads) (lit≤ tt) crossed-12 crossed-21;
-  no-script = λ numbers a.
-      let k = chosen-has-order small firstValues (λ w c. 0) scriptChooser script-keeps-law numbers crossedReads (lit≤ tt) a in
+  never-accepted = λ f law a.
+      let k = chosen-has-order small firstValues (λ w c. 0) f law crossedReads (lit≤ tt) a in
       no-order (byJobs crossedReads) (lit≤ tt) crossed-12 crossed-21 (k .0) (k .1);
 }
 
@@ -116,13 +122,13 @@ up-to-two : (x : ℕ) → (x ≡ 1) ⊎ (x ≡ 2) → (1 ≤ x) × (x ≤ 2)
 up-to-two x (inl e) = (omega arith, omega arith)
 up-to-two x (inr e) = (omega arith, omega arith)
 
-module _ (run : History ℕ) (numbers : List ℕ) {s : RegisterView ℕ} {k : List ℕ} (r : RunWith scriptChooser small firstValues (λ w c. 0) numbers run s k) (two : openings (byJobs run) ≡ 2) where
+module _ (run : History ℕ) (numbers : List ℕ) {s : RegisterView ℕ} {f : Meaning} (r : RunWith (scriptMeaning numbers) small firstValues (λ w c. 0) run s f) (two : openings (byJobs run) ≡ 2) where
   -- the bounds by job after the run
   abbrev bounds : Bounds
   bounds = boundsByJob (2 ^ 62) run (boundsOf s)
 
   placed : Placed (byJobs run) (bounds .low) (bounds .high)
-  placed = views-agree firstValues (λ w c. 0) (2 ^ 62) 2 run s (lit≤ tt) (run-with-view-run small firstValues (λ w c. 0) scriptChooser script-keeps-law r .0) .tracked .placed
+  placed = views-agree firstValues (λ w c. 0) (2 ^ 62) 2 run s (lit≤ tt) (run-with-view-run small firstValues (λ w c. 0) (scriptMeaning numbers) (script-lawful numbers) r .0) .tracked .placed
 
   ascending-pair : (a b : ℕ) → sortKey (byJobs run) (bounds .low) b ≤ sortKey (byJobs run) (bounds .low) a → Ascending (sortKey (byJobs run) (bounds .low)) (a ∷ b ∷ [])
   ascending-pair a b l x y p = let k = pair-row a b x y p in rw (k .0, k .1) l
@@ -143,11 +149,11 @@ module _ (run : History ℕ) (numbers : List ℕ) {s : RegisterView ℕ} {k : Li
 
 ---- Overtaking
 
-overtaking-accepted : AcceptedWith scriptChooser small firstValues (λ w c. 0) (6 ∷ 3 ∷ []) (callsOf overtaking)
+overtaking-accepted : AcceptedWith (scriptMeaning (6 ∷ 3 ∷ [])) small firstValues (λ w c. 0) (callsOf overtaking)
 overtaking-accepted = record {
   run = overtaking;
   view = _;
-  state = _;
+  meaning = _;
   same-calls = refl;
   run-with =
       goes-on (goes-on (goes-on (goes-on (goes-on (goes-on (goes-on (goes-on starts
@@ -246,7 +252,9 @@ skew-12 : Precedes (byJobs readSkew) 1 2
 skew-12 = committed-read {c = 2} here (λ w. unwritten-by-two (w .occurs)) (record { place = 5; before = _; occurs = here; wrote = record { value = 25; before = _; occurs = here } })
 
 skew-21 : Precedes (byJobs readSkew) 2 1
-skew-21 = read-committed {c = 1} (later here) (record { value = 15; before = _; occurs = later here }) (record { value = 10; before = _; occurs = later (later here); unwritten = λ w. unwritten-at-first (w .occurs) })
+skew-21 =
+    read-committed {c = 1} (later here) (record { value = 15; before = _; occurs = later here })
+    (record { value = 10; before = _; occurs = later (later here); unwritten = λ w. unwritten-at-first (w .occurs) })
 
 pub read-skew : ReadSkewIsNotExplained
 read-skew = record {
@@ -256,18 +264,18 @@ read-skew = record {
   two-before-one = skew-21;
   not-explained = skew-unexplained;
   no-order = no-order (byJobs readSkew) (lit≤ tt) skew-12 skew-21;
-  no-script = λ numbers a.
-      let k = chosen-has-order small firstValues (λ w c. 0) scriptChooser script-keeps-law numbers (callsOf readSkew) (lit≤ tt) a in
+  never-accepted = λ f law a.
+      let k = chosen-has-order small firstValues (λ w c. 0) f law (callsOf readSkew) (lit≤ tt) a in
       no-order (byJobs readSkew) (lit≤ tt) skew-12 skew-21 (k .0) (answers-aside readSkew (k .0) .1 (k .1));
 }
 
 ---- Real time
 
-in-turn-accepted : AcceptedWith scriptChooser small firstValues (λ w c. 0) (1 ∷ 2 ∷ []) (callsOf inTurn)
+in-turn-accepted : AcceptedWith (scriptMeaning (1 ∷ 2 ∷ [])) small firstValues (λ w c. 0) (callsOf inTurn)
 in-turn-accepted = record {
   run = inTurn;
   view = _;
-  state = _;
+  meaning = _;
   same-calls = refl;
   run-with =
       goes-on (goes-on (goes-on (goes-on (goes-on (goes-on starts
@@ -279,11 +287,11 @@ in-turn-accepted = record {
       (record { a-crew = (lit≤ tt, lit≤ tt); a-job = lit≤ tt; room = lit≤ tt; below-top = lit≤ tt }, lit≤ tt, refl);
 }
 
-at-once-accepted : AcceptedWith scriptChooser small firstValues (λ w c. 0) (1 ∷ 1 ∷ []) (callsOf atOnce)
+at-once-accepted : AcceptedWith (scriptMeaning (1 ∷ 1 ∷ [])) small firstValues (λ w c. 0) (callsOf atOnce)
 at-once-accepted = record {
   run = atOnce;
   view = _;
-  state = _;
+  meaning = _;
   same-calls = refl;
   run-with =
       goes-on (goes-on (goes-on (goes-on (goes-on (goes-on starts

@@ -6,12 +6,13 @@ use mathlib.Core.Logic.{inl, inr}
 use Prim.Native.Nat.{ℕ}
 use lib.Dec.{eqb}
 use Rattle.std.proofs.shelf.Tests.{eqb-true, eq-eqb}
+use Rattle.std.specs.Options.{valueOr}
 use Rattle.std.specs.declared.option.Option.{Option}
 use Rattle.std.specs.declared.option.Option.the-variants.{Some, None}
 use Rattle.history.specs.Events.{Operation, Event, History}
 use Rattle.history.specs.Events.Operation.{opens, reads, writes, commits, abandons}
 use Rattle.history.specs.Events.Event.{by}
-use Rattle.history.specs.Projections.{projection, buffered, isCommitted, orElse, WellFormed}
+use Rattle.history.specs.Projections.{projection, buffered, isCommitted, WellFormed}
 use Rattle.history.specs.Values.{committedValue, ReadsCurrent, observed}
 use Rattle.history.specs.Precedence.{Extends, Precedes, In, Once, Respects}
 use Rattle.history.specs.Precedence.Extends.{here, later}
@@ -33,13 +34,15 @@ either-eq {A} {u} {w} P x y p q = go (eqb x y) refl
 
 module _ {V : Type 0} (first : ℕ → V) where
   -- jobs of the row that install nothing into c can be passed over
-  left-by-skip : (σ : ℕ → List (Operation V V ℕ)) (c : ℕ) {part row : List ℕ} → Extends row part → ((z : ℕ) (eb : List ℕ) → Extends row (z ∷ eb) → Extends eb part → installs (σ z) c ≡ None) → leftBy σ first row c ≡ leftBy σ first part c
+  left-by-skip : (σ : ℕ → List (Operation V V ℕ)) (c : ℕ) {part row : List ℕ} → Extends row part →
+      ((z : ℕ) (eb : List ℕ) → Extends row (z ∷ eb) → Extends eb part → installs (σ z) c ≡ None) → leftBy σ first row c ≡ leftBy σ first part c
   left-by-skip σ c here none = refl
-  left-by-skip σ c (later {a = z} {h = r} s) none = ap (λ o. orElse o (leftBy σ first r c)) (none z r here s) ∙ left-by-skip σ c s (λ w eb t u. none w eb (later t) u)
+  left-by-skip σ c (later {a = z} {h = r} s) none = ap (λ o. valueOr o (leftBy σ first r c)) (none z r here s) ∙ left-by-skip σ c s (λ w eb t u. none w eb (later t) u)
 
-  left-by-same : (σ τ : ℕ → List (Operation V V ℕ)) (c : ℕ) (row : List ℕ) → ((z : ℕ) (eb : List ℕ) → Extends row (z ∷ eb) → installs (σ z) c ≡ installs (τ z) c) → leftBy σ first row c ≡ leftBy τ first row c
+  left-by-same : (σ τ : ℕ → List (Operation V V ℕ)) (c : ℕ) (row : List ℕ) → ((z : ℕ) (eb : List ℕ) → Extends row (z ∷ eb) → installs (σ z) c ≡ installs (τ z) c) →
+      leftBy σ first row c ≡ leftBy τ first row c
   left-by-same σ τ c [] same = refl
-  left-by-same σ τ c (z ∷ r) same = ap₂ orElse (same z r here) (left-by-same σ τ c r (λ w eb t. same w eb (later t)))
+  left-by-same σ τ c (z ∷ r) same = ap₂ valueOr (same z r here) (left-by-same σ τ c r (λ w eb t. same w eb (later t)))
 
   left-by-none : (c : ℕ) (row : List ℕ) → leftBy (projection []) first row c ≡ first c
   left-by-none c [] = refl
@@ -51,7 +54,7 @@ module _ {V : Type 0} (first : ℕ → V) where
   observes-same m n (opens ∷ s) e = observes-same m n s e
   observes-same m n (reads c v ∷ s) e = ap₂ _∷_ (go (buffered s c) refl) (observes-same m n s (λ d f. e d (inr f)))
     where
-      go : (o : Option V) → buffered s c ≡ o → orElse o (m c) ≡ orElse o (n c)
+      go : (o : Option V) → buffered s c ≡ o → valueOr o (m c) ≡ valueOr o (n c)
       go (Some w) q = refl
       go None q = e c (inl (refl, q))
   observes-same m n (writes c v ∷ s) e = observes-same m n s e
@@ -93,7 +96,8 @@ module _ {V : Type 0} (first : ℕ → V) where
           nones false = refl
       go false e k = refl
 
-  write-installs : (h : History V) (x k z c : ℕ) (v : V) (b : Bool) → eqb x z ≡ b → isCommitted (projection h x) ≡ false → installs (cond b (writes k v ∷ projection h z) (projection h z)) c ≡ installs (projection h z) c
+  write-installs : (h : History V) (x k z c : ℕ) (v : V) (b : Bool) → eqb x z ≡ b → isCommitted (projection h x) ≡ false →
+      installs (cond b (writes k v ∷ projection h z) (projection h z)) c ≡ installs (projection h z) c
   write-installs h x k z c v true e n = let m : isCommitted (projection h z) ≡ false = rw (eqb-true x z e) at n in rw m
   write-installs h x k z c v false e n = refl
 
@@ -113,23 +117,27 @@ module _ {V : Type 0} (first : ℕ → V) where
 
   -- a read: y stands before all who had committed the cell, so what the jobs before y leave is the committed value
   read-step : (h : History V) (row : List ℕ) (x c : ℕ) (v : V) → WellFormed (by x (reads c v) ∷ h) → NoBreach (by x (reads c v) ∷ h) row → Explained h row →
-      v ≡ orElse (buffered (projection h x) c) (committedValue first h c) → (ea : List ℕ) → Extends row (x ∷ ea) → orElse (buffered (projection h x) c) (leftBy (projection h) first ea c) ≡ v
+      v ≡ valueOr (buffered (projection h x) c) (committedValue first h c) → (ea : List ℕ) → Extends row (x ∷ ea) → valueOr (buffered (projection h x) c) (leftBy (projection h) first ea c) ≡ v
   unfolding NoBreach
   read-step h row x c v wf resp ih current ea s = go (buffered (projection h x) c) refl current
     where
-      nobody : buffered (projection h x) c ≡ None → (z : ℕ) (eb : List ℕ) → Extends row (z ∷ eb) → Extends eb (x ∷ ea) → (o : Option V) → installs (projection h z) c ≡ o → installs (projection h z) c ≡ None
+      nobody : buffered (projection h x) c ≡ None → (z : ℕ) (eb : List ℕ) → Extends row (z ∷ eb) → Extends eb (x ∷ ea) → (o : Option V) →
+          installs (projection h z) c ≡ o → installs (projection h z) c ≡ None
       nobody q z eb t u None e = e
       nobody q z eb t u (Some w) e = absurd (resp z eb x ea t u (committed-read {c = c} {v = v} here (unbuffered-unwritten h x c q) (installed-committed h (wf .1) z c w e)))
 
       mine : installs (projection h x) c ≡ None
       mine = rw (active-uncommitted h (wf .1) x (wf .0))
 
-      go : (o : Option V) → buffered (projection h x) c ≡ o → v ≡ orElse o (committedValue first h c) → orElse o (leftBy (projection h) first ea c) ≡ v
+      go : (o : Option V) → buffered (projection h x) c ≡ o → v ≡ valueOr o (committedValue first h c) → valueOr o (leftBy (projection h) first ea c) ≡ v
       go (Some w) q e = sym e
-      go None q e = sym (e ∙ (sym (ih .so-left c) ∙ (left-by-skip (projection h) c s (λ z eb t u. nobody q z eb t u (installs (projection h z) c) refl) ∙ ap (λ o. orElse o (leftBy (projection h) first ea c)) mine)))
+      go None q e =
+          sym
+          (e ∙ (sym (ih .so-left c) ∙ (left-by-skip (projection h) c s (λ z eb t u. nobody q z eb t u (installs (projection h z) c) refl) ∙ ap (λ o. valueOr o (leftBy (projection h) first ea c)) mine)))
 
   -- a commit: x stands after all who had committed one of its cells, and after all who had read one first-hand
-  commit-step : (h : History V) (row : List ℕ) (x p : ℕ) → WellFormed (by x (commits p) ∷ h) → Once row → In x row → NoBreach (by x (commits p) ∷ h) row → Explained h row → Explained (by x (commits p) ∷ h) row
+  commit-step : (h : History V) (row : List ℕ) (x p : ℕ) → WellFormed (by x (commits p) ∷ h) → Once row → In x row → NoBreach (by x (commits p) ∷ h) row →
+      Explained h row → Explained (by x (commits p) ∷ h) row
   unfolding NoBreach
   commit-step h row x p wf once (ex, sx) resp ih = record {
     so-observed = λ y ea s. either (λ k. observes (leftBy new first ea) k ≡ observed k) (eqb x y) (keeps y ea s) (keeps y ea s);
@@ -139,7 +147,8 @@ module _ {V : Type 0} (first : ℕ → V) where
       new : ℕ → List (Operation V V ℕ)
       new = projection (by x (commits p) ∷ h)
 
-      unread : (y : ℕ) (ea : List ℕ) (z : ℕ) (eb : List ℕ) (c : ℕ) → Extends row (y ∷ ea) → Extends ea (z ∷ eb) → FirstHand (projection h y) c → x ≡ z → (o : Option V) → buffered (projection h z) c ≡ o → buffered (projection h z) c ≡ None
+      unread : (y : ℕ) (ea : List ℕ) (z : ℕ) (eb : List ℕ) (c : ℕ) → Extends row (y ∷ ea) → Extends ea (z ∷ eb) → FirstHand (projection h y) c → x ≡ z → (o : Option V) →
+          buffered (projection h z) c ≡ o → buffered (projection h z) c ≡ None
       unread y ea z eb c s t f e None q = q
       unread y ea z eb c s t f e (Some v) q = absurd (resp y ea z eb s t (read-committed (occurs-here h (commits p) x z e) (buffered-wrote h z c v q) (first-hand-read h y c f)))
 
@@ -147,13 +156,15 @@ module _ {V : Type 0} (first : ℕ → V) where
       keeps y ea s = observes-same (leftBy new first ea) (leftBy (projection h) first ea) (projection h y)
           (λ c f. left-by-same new (projection h) c ea (λ z eb t. commit-installs h x p z c (λ e. unread y ea z eb c s t f e (buffered (projection h z) c) refl))) ∙ ih .so-observed y ea s
 
-      nobody : (c : ℕ) (v : V) → buffered (projection h x) c ≡ Some v → (z : ℕ) (eb : List ℕ) → Extends row (z ∷ eb) → Extends eb (x ∷ ex) → (b : Bool) → eqb x z ≡ b → (o : Option V) → installs (projection h z) c ≡ o → installs (cond b (commits p ∷ projection h z) (projection h z)) c ≡ None
+      nobody : (c : ℕ) (v : V) → buffered (projection h x) c ≡ Some v → (z : ℕ) (eb : List ℕ) → Extends row (z ∷ eb) → Extends eb (x ∷ ex) → (b : Bool) → eqb x z ≡ b →
+          (o : Option V) → installs (projection h z) c ≡ o → installs (cond b (commits p ∷ projection h z) (projection h z)) c ≡ None
       nobody c v q z eb t u true e o k = absurd (once x (eb, rw (eqb-true x z e) t, (ex, u)))
       nobody c v q z eb t u false e None k = k
-      nobody c v q z eb t u false e (Some w) k = absurd (resp z eb x ex t u (committed-committed (occurs-here h (commits p) x x refl) (buffered-wrote h x c v q) (installed-committed h (wf .1) z c w k)))
+      nobody c v q z eb t u false e (Some w) k =
+          absurd (resp z eb x ex t u (committed-committed (occurs-here h (commits p) x x refl) (buffered-wrote h x c v q) (installed-committed h (wf .1) z c w k)))
 
-      ends : (c : ℕ) (o : Option V) → buffered (projection h x) c ≡ o → leftBy new first row c ≡ orElse (buffered (projection h x) c) (committedValue first h c)
-      ends c None q = left-by-same new (projection h) c row (λ z eb t. commit-installs h x p z c (λ e. rw (← e) q)) ∙ (ih .so-left c ∙ ap (λ o. orElse o (committedValue first h c)) (sym q))
+      ends : (c : ℕ) (o : Option V) → buffered (projection h x) c ≡ o → leftBy new first row c ≡ valueOr (buffered (projection h x) c) (committedValue first h c)
+      ends c None q = left-by-same new (projection h) c row (λ z eb t. commit-installs h x p z c (λ e. rw (← e) q)) ∙ (ih .so-left c ∙ ap (λ o. valueOr o (committedValue first h c)) (sym q))
       ends c (Some v) q = left-by-skip new c sx (λ z eb t u. nobody c v q z eb t u (eqb x z) refl (installs (projection h z) c) refl) ∙ (rw (eq-eqb x x refl, q))
 
   explain : (h : History V) (row : List ℕ) → Once row → WellFormed h → ReadsCurrent first h → HasCommitted h row → NoBreach h row → Explained h row

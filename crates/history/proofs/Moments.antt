@@ -42,7 +42,8 @@ module _ {V : Type 0} where
   committed-later a w = record { place = w .place; before = w .before; occurs = later (w .occurs); wrote = w .wrote }
 
   -- a buffered value was written
-  wrote-step : (y x c : ℕ) (h : History V) (d : Operation V V ℕ) (b : Bool) (v : V) → eqb y x ≡ b → ((w : V) → buffered (projection h x) c ≡ Some w → Wrote h x c) → buffered (cond b (d ∷ projection h x) (projection h x)) c ≡ Some v → Wrote (by y d ∷ h) x c
+  wrote-step : (y x c : ℕ) (h : History V) (d : Operation V V ℕ) (b : Bool) (v : V) → eqb y x ≡ b → ((w : V) → buffered (projection h x) c ≡ Some w → Wrote h x c) →
+      buffered (cond b (d ∷ projection h x) (projection h x)) c ≡ Some v → Wrote (by y d ∷ h) x c
   wrote-step y x c h d false v e ih q = wrote-later (by y d) (ih v q)
   wrote-step y x c h opens true v e ih q = wrote-later (by y opens) (ih v q)
   wrote-step y x c h (reads k w) true v e ih q = wrote-later (by y (reads k w)) (ih v q)
@@ -103,7 +104,9 @@ module _ {V : Type 0} where
   pub well-formed-tail : (a : Event V V ℕ) (h : History V) → WellFormed (a ∷ h) → WellFormed h
   well-formed-tail (by x o) h wf = wf .1
 
-  active-step : (y x : ℕ) (h : History V) (d : Operation V V ℕ) (b : Bool) → eqb y x ≡ b → WellFormed (by y d ∷ h) → (isActive (projection h x) ≡ true → isCommitted (projection h x) ≡ false) → isActive (cond b (d ∷ projection h x) (projection h x)) ≡ true → isCommitted (cond b (d ∷ projection h x) (projection h x)) ≡ false
+  active-step : (y x : ℕ) (h : History V) (d : Operation V V ℕ) (b : Bool) → eqb y x ≡ b → WellFormed (by y d ∷ h) →
+      (isActive (projection h x) ≡ true → isCommitted (projection h x) ≡ false) → isActive (cond b (d ∷ projection h x) (projection h x)) ≡ true →
+      isCommitted (cond b (d ∷ projection h x) (projection h x)) ≡ false
   active-step y x h d false e wf ih o = ih o
   active-step y x h opens true e wf ih o = ap isCommitted (unopened-projection h (wf .1) x (omega (arith, eqb-true y x e)))
   active-step y x h (reads c v) true e wf ih o = ih o
@@ -116,7 +119,9 @@ module _ {V : Type 0} where
   active-uncommitted (by y d ∷ h) wf x o = active-step y x h d (eqb y x) refl wf (active-uncommitted h (well-formed-tail (by y d) h wf) x) o
 
   -- what a job installs it has committed
-  installs-step : (y x c : ℕ) (h : History V) (d : Operation V V ℕ) (b : Bool) (v : V) → eqb y x ≡ b → WellFormed (by y d ∷ h) → ((w : V) → installs (projection h x) c ≡ Some w → CommittedCell h x c) → installs (cond b (d ∷ projection h x) (projection h x)) c ≡ Some v → CommittedCell (by y d ∷ h) x c
+  installs-step : (y x c : ℕ) (h : History V) (d : Operation V V ℕ) (b : Bool) (v : V) → eqb y x ≡ b → WellFormed (by y d ∷ h) →
+      ((w : V) → installs (projection h x) c ≡ Some w → CommittedCell h x c) → installs (cond b (d ∷ projection h x) (projection h x)) c ≡ Some v →
+      CommittedCell (by y d ∷ h) x c
   installs-step y x c h d false v e wf ih q = committed-later (by y d) (ih v q)
   installs-step y x c h opens true v e wf ih q = committed-later (by y opens) (ih v q)
   installs-step y x c h (reads k w) true v e wf ih q = committed-later (by y (reads k w)) (ih v q)
@@ -137,10 +142,17 @@ module _ {V : Type 0} where
   FirstHand (commits p ∷ s) c = FirstHand s c
   FirstHand (abandons p ∷ s) c = FirstHand s c
 
-  first-hand-step : (y x c : ℕ) (h : History V) (d : Operation V V ℕ) (b : Bool) → eqb y x ≡ b → (FirstHand (projection h x) c → ReadGlobally h x c) → FirstHand (cond b (d ∷ projection h x) (projection h x)) c → ReadGlobally (by y d ∷ h) x c
+  first-hand-step : (y x c : ℕ) (h : History V) (d : Operation V V ℕ) (b : Bool) → eqb y x ≡ b → (FirstHand (projection h x) c → ReadGlobally h x c) →
+      FirstHand (cond b (d ∷ projection h x) (projection h x)) c → ReadGlobally (by y d ∷ h) x c
   first-hand-step y x c h d false e ih f = read-later (by y d) (ih f)
   first-hand-step y x c h opens true e ih f = read-later (by y opens) (ih f)
-  first-hand-step y x c h (reads k w) true e ih (inl f) = record { value = w; before = h; occurs = subst (λ k′. Extends (by y (reads k w) ∷ h) (by x (reads k′ w) ∷ h)) (f .0) (occurs-here h (reads k w) y x (eqb-true y x e)); unwritten = unbuffered-unwritten h x c (f .1) }
+  first-hand-step y x c h (reads k w) true e ih (inl f) =
+      record {
+        value = w;
+        before = h;
+        occurs = subst (λ k′. Extends (by y (reads k w) ∷ h) (by x (reads k′ w) ∷ h)) (f .0) (occurs-here h (reads k w) y x (eqb-true y x e));
+        unwritten = unbuffered-unwritten h x c (f .1);
+      }
   first-hand-step y x c h (reads k w) true e ih (inr f) = read-later (by y (reads k w)) (ih f)
   first-hand-step y x c h (writes k w) true e ih f = read-later (by y (writes k w)) (ih f)
   first-hand-step y x c h (commits p) true e ih f = read-later (by y (commits p)) (ih f)

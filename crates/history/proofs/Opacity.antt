@@ -40,7 +40,8 @@ tracked top t wf starts = record {
 }
 tracked top t wf (goes-on {h = h} {b = b} {x = x} {o = d} {b′ = b′} r m) = tracked-step h b x d b′ wf (tracked top t (well-formed-tail (by x d) h wf) r) m
 
-bounds-run-step : {V : Type 0} (top : ℕ) (run : History V) (b : Bounds) (w : ℕ) (d : Operation V V ℕ) (b′ : Bounds) → 2 ≤ top → WellMade (by w d ∷ run) → CrewMoves top run b w d b′ → BoundsRun top (byJobs run) (boundsByJob top run b) → BoundsRun top (byJobs (by w d ∷ run)) (boundsByJob top (by w d ∷ run) b′)
+bounds-run-step : {V : Type 0} (top : ℕ) (run : History V) (b : Bounds) (w : ℕ) (d : Operation V V ℕ) (b′ : Bounds) → 2 ≤ top → WellMade (by w d ∷ run) →
+    CrewMoves top run b w d b′ → BoundsRun top (byJobs run) (boundsByJob top run b) → BoundsRun top (byJobs (by w d ∷ run)) (boundsByJob top (by w d ∷ run) b′)
 bounds-run-step top run b w opens b′ t wm m r = BoundsRun.goes-on r (moves-open top run b w b′ t wm m)
 bounds-run-step top run b w (reads c v) b′ t wm m r = BoundsRun.goes-on r (moves-read top run b w b′ c v t wm m)
 bounds-run-step top run b w (writes c v) b′ t wm m r = BoundsRun.goes-on r (moves-write top run b w b′ c v t wm m)

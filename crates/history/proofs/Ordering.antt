@@ -140,7 +140,8 @@ module _ {V : Type 0} (h : History V) (low high : ℕ → ℕ) (pl : Placed h lo
       go None None e f a = absurd a
 
   -- any row of all jobs in ascending keys, ties anyhow
-  pub ascending-is-order : (row : List ℕ) → Once row → ((x : ℕ) → 1 ≤ x → x ≤ openings h → In x row) → ((x : ℕ) → In x row → (1 ≤ x) × (x ≤ openings h)) → Ascending (sortKey h low) row → SerializationOrder h row
+  pub ascending-is-order : (row : List ℕ) → Once row → ((x : ℕ) → 1 ≤ x → x ≤ openings h → In x row) → ((x : ℕ) → In x row → (1 ≤ x) × (x ≤ openings h)) →
+      Ascending (sortKey h low) row → SerializationOrder h row
   ascending-is-order row once all only asc = record { once = once; all = all; only = only; rules = λ x y i j ne b. rule x y i j ne (keys-ascend x y ne b) }
     where
       rule : (x y : ℕ) → In x row → In y row → (x ≡ y → ⊥) → sortKey h low x < sortKey h low y → StandsBefore row x y

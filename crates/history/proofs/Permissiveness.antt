@@ -11,7 +11,7 @@ use Rattle.history.specs.Precedence.{Extends, Occurs, Precedes, SerializationO
 use Rattle.history.specs.Precedence.Extends.{here, later}
 use Rattle.history.specs.Precedence.Precedes.{real-time, committed-read, read-committed, committed-committed}
 use Rattle.history.specs.WellMade.{WellMade, Calls, WellMadeList}
-use Rattle.history.specs.Acceptance.{AcceptedAt, position, positions, scriptChooser}
+use Rattle.history.specs.Acceptance.{AcceptedAt, position, positions}
 use Rattle.history.proofs.Rows.{extends-trans}
 use Rattle.history.proofs.Crews.{openings-by-job, open-job-numbered}
 use Rattle.history.proofs.Viewing.{views-opaque}
@@ -64,14 +64,19 @@ module _ {V R P : Type 0} where
             let k = precedes-numbered b in
             position-rises x y row (l .once) (l .rules x y (l .all x (k .0 .0) (rw (openings-by-job cs) (k .0 .1))) (l .all y (k .1 .0) (rw (openings-by-job cs) (k .1 .1))) n b)
 
-pub positions-accepted : {V : Type 0} (first : ℕ → V) (own : ℕ → ℕ → V) (top n m b : ℕ) (cs : Calls V) → b + 2 ≤ top → WellMadeList n m b cs → (row : List ℕ) → SerializationOrder (byJobs cs) row → AcceptedAt top n first own cs (positions (position row) cs)
-positions-accepted first own top n m b cs t wl row l = rising-accepted top n m first own (position row) cs (wl .orderly) (wl .in-range) (positions-rise cs (wl .orderly) top b row t (wl .entries-suffice) l)
+pub positions-accepted : {V : Type 0} (first : ℕ → V) (own : ℕ → ℕ → V) (top n m b : ℕ) (cs : Calls V) → b + 2 ≤ top → WellMadeList n m b cs → (row : List ℕ) →
+    SerializationOrder (byJobs cs) row → AcceptedAt top n first own cs (positions (position row) cs)
+positions-accepted first own top n m b cs t wl row l =
+    rising-accepted top n m first own (position row) cs (wl .orderly) (wl .in-range) (positions-rise cs (wl .orderly) top b row t (wl .entries-suffice) l)
 
-pub accepted-has-order : {V : Type 0} (first : ℕ → V) (own : ℕ → ℕ → V) (top n : ℕ) (cs : Calls V) (scriptChooser : List ℕ) → 2 ≤ top → AcceptedAt top n first own cs scriptChooser → (row : List ℕ) × SerializationOrder (byJobs cs) row
-accepted-has-order first own top n cs scriptChooser t a =
+pub accepted-has-order : {V : Type 0} (first : ℕ → V) (own : ℕ → ℕ → V) (top n : ℕ) (cs : Calls V) (places : List ℕ) → 2 ≤ top → AcceptedAt top n first own cs places →
+    (row : List ℕ) × SerializationOrder (byJobs cs) row
+accepted-has-order first own top n cs places t a =
     let o = views-opaque first own top n (a .run) (a .view) t (a .view-run) (a .run) here in
     let k = subst (λ z. Alike (a .run) z) (a .same-calls) (calls-alike (a .run)) in
     (o .0, order-alike (by-jobs-alike k) (o .1))
 
-pub views-permissive : {V : Type 0} (first : ℕ → V) (own : ℕ → ℕ → V) (top n m b : ℕ) (cs : Calls V) → b + 2 ≤ top → WellMadeList n m b cs → ((row : List ℕ) × SerializationOrder (byJobs cs) row) ↔ ((scriptChooser : List ℕ) × AcceptedAt top n first own cs scriptChooser)
-views-permissive first own top n m b cs t wl = ((λ l. (positions (position (l .0)) cs, positions-accepted first own top n m b cs t wl (l .0) (l .1))), (λ a. accepted-has-order first own top n cs (a .0) (omega arith) (a .1)))
+pub views-permissive : {V : Type 0} (first : ℕ → V) (own : ℕ → ℕ → V) (top n m b : ℕ) (cs : Calls V) → b + 2 ≤ top → WellMadeList n m b cs →
+    ((row : List ℕ) × SerializationOrder (byJobs cs) row) ↔ ((places : List ℕ) × AcceptedAt top n first own cs places)
+views-permissive first own top n m b cs t wl =
+    ((λ l. (positions (position (l .0)) cs, positions-accepted first own top n m b cs t wl (l .0) (l .1))), (λ a. accepted-has-order first own top n cs (a .0) (omega arith) (a .1)))

@@ -6,11 +6,12 @@ use Prim.Native.Nat.{ℕ}
 use native.Mathlib.Omega.{arith}
 use lib.Dec.{eqb}
 use Rattle.std.proofs.shelf.Tests.{eqb-true}
+use Rattle.std.specs.Options.{valueOr}
 use Rattle.std.specs.declared.option.Option.the-variants.{Some}
 use Rattle.history.specs.Events.{Operation, History}
 use Rattle.history.specs.Events.Operation.{opens, reads, writes, commits, abandons}
 use Rattle.history.specs.Events.Event.{by}
-use Rattle.history.specs.Projections.{projection, buffered, isCommitted, orElse, WellFormed}
+use Rattle.history.specs.Projections.{projection, buffered, isCommitted, WellFormed}
 use Rattle.history.specs.Values.{ReadsCurrent}
 use Rattle.history.specs.Precedence.{Respects}
 use Rattle.history.specs.SerialExecution.{executeJob, executeSerially, SeriallyExplained}
@@ -21,7 +22,7 @@ use Rattle.history.proofs.Explaining.{respectful-explains}
 module _ {V : Type 0} (m : ℕ → V) where
   -- after the steps of a job, the state of serial execution is what the short form says
   record InStep (s : List (Operation V V ℕ)) : Type 0 where
-    of-cells : (c : ℕ) → executeJob m s .cells c ≡ orElse (installs s c) (m c)
+    of-cells : (c : ℕ) → executeJob m s .cells c ≡ valueOr (installs s c) (m c)
     of-buffer : (c : ℕ) → executeJob m s .buffer c ≡ buffered s c
     of-observed : executeJob m s .observed ≡ observes m s
 
@@ -33,11 +34,11 @@ module _ {V : Type 0} (m : ℕ → V) where
   in-step-next y x h d false e wf k = k
   in-step-next y x h opens true e wf k = rw (unopened-projection h (wf .1) x (omega (arith, eqb-true y x e))) (record { of-cells = λ c. refl; of-buffer = λ c. refl; of-observed = refl })
   in-step-next y x h (reads c v) true e wf k = let n = active-uncommitted h (wf .1) x (rw (eqb-true y x e) at (wf .0)) in
-      record { of-cells = k .of-cells; of-buffer = k .of-buffer; of-observed = ap₂ _∷_ (ap₂ orElse (k .of-buffer c) (unmoved (projection h x) n k c)) (k .of-observed) }
+      record { of-cells = k .of-cells; of-buffer = k .of-buffer; of-observed = ap₂ _∷_ (ap₂ valueOr (k .of-buffer c) (unmoved (projection h x) n k c)) (k .of-observed) }
   in-step-next y x h (writes c v) true e wf k = let n = active-uncommitted h (wf .1) x (rw (eqb-true y x e) at (wf .0)) in
       record { of-cells = λ d. unmoved (projection h x) n k d ∙ rw n; of-buffer = λ d. ap (cond (eqb c d) (Some v)) (k .of-buffer d); of-observed = k .of-observed }
   in-step-next y x h (commits p) true e wf k = let n = active-uncommitted h (wf .1) x (rw (eqb-true y x e) at (wf .0)) in
-      record { of-cells = λ c. ap₂ orElse (k .of-buffer c) (unmoved (projection h x) n k c); of-buffer = k .of-buffer; of-observed = k .of-observed }
+      record { of-cells = λ c. ap₂ valueOr (k .of-buffer c) (unmoved (projection h x) n k c); of-buffer = k .of-buffer; of-observed = k .of-observed }
   in-step-next y x h (abandons p) true e wf k = record { of-cells = k .of-cells; of-buffer = k .of-buffer; of-observed = k .of-observed }
 
   in-step : (h : History V) → WellFormed h → (x : ℕ) → InStep (projection h x)
@@ -47,7 +48,7 @@ module _ {V : Type 0} (m : ℕ → V) where
 module _ {V : Type 0} (first : ℕ → V) (h : History V) (wf : WellFormed h) where
   executed-left : (row : List ℕ) → executeSerially (projection h) first row ≡ leftBy (projection h) first row
   executed-left [] = refl
-  executed-left (x ∷ row) = fun-ext (λ c. in-step (executeSerially (projection h) first row) h wf x .of-cells c ∙ ap (λ f. orElse (installs (projection h x) c) (f c)) (executed-left row))
+  executed-left (x ∷ row) = fun-ext (λ c. in-step (executeSerially (projection h) first row) h wf x .of-cells c ∙ ap (λ f. valueOr (installs (projection h x) c) (f c)) (executed-left row))
 
   pub serially-explained : (row : List ℕ) → Explains first h row → SeriallyExplained first h row
   serially-explained row ex = record {

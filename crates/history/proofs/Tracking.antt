@@ -64,7 +64,8 @@ module _ {V : Type 0} where
   PrecedesNow (by z (abandons p)) h x y = ⊥
 
   -- an event of h with one more: the last one, or one of h
-  pub occurs-cases : (P : Event V V ℕ → History V → Type 0) {Q : Type 0} (b : Event V V ℕ) (g : History V) (a : Event V V ℕ) (h : History V) → P b g → (Extends h (b ∷ g) → Q) → Extends (a ∷ h) (b ∷ g) → P a h ⊎ Q
+  pub occurs-cases : (P : Event V V ℕ → History V → Type 0) {Q : Type 0} (b : Event V V ℕ) (g : History V) (a : Event V V ℕ) (h : History V) → P b g →
+      (Extends h (b ∷ g) → Q) → Extends (a ∷ h) (b ∷ g) → P a h ⊎ Q
   occurs-cases P b g a h q f here = inl q
   occurs-cases P b g a h q f (later s) = inr (f s)
 
@@ -72,7 +73,8 @@ module _ {V : Type 0} where
   precedes-cases x y a h (real-time {g = g} s e) = occurs-cases (λ a h. PrecedesNow a h x y) (by y opens) g a h (refl, e) (λ s. real-time s e) s
   precedes-cases x y a h (committed-read {g = g} {c = c} {v = v} s n e) = occurs-cases (λ a h. PrecedesNow a h x y) (by y (reads c v)) g a h (refl, n, e) (λ s. committed-read s n e) s
   precedes-cases x y a h (read-committed {g = g} {c = c} {p = p} s w e) = occurs-cases (λ a h. PrecedesNow a h x y) (by y (commits p)) g a h (refl, (c, w, inl e)) (λ s. read-committed s w e) s
-  precedes-cases x y a h (committed-committed {g = g} {c = c} {p = p} s w e) = occurs-cases (λ a h. PrecedesNow a h x y) (by y (commits p)) g a h (refl, (c, w, inr e)) (λ s. committed-committed s w e) s
+  precedes-cases x y a h (committed-committed {g = g} {c = c} {p = p} s w e) =
+      occurs-cases (λ a h. PrecedesNow a h x y) (by y (commits p)) g a h (refl, (c, w, inr e)) (λ s. committed-committed s w e) s
 
   abbrev pub CommitsNow : Event V V ℕ → History V → ℕ → ℕ → Type 0
   CommitsNow (by z opens) h x c = ⊥
@@ -89,10 +91,14 @@ module _ {V : Type 0} where
   ReadsNow (by z (abandons p)) h x c = ⊥
 
   pub committed-cases : (x c : ℕ) (a : Event V V ℕ) (h : History V) → CommittedCell (a ∷ h) x c → CommitsNow a h x c ⊎ CommittedCell h x c
-  committed-cases x c a h k = occurs-cases (λ a h. CommitsNow a h x c) (by x (commits (k .place))) (k .before) a h (refl, k .wrote) (λ s. record { place = k .place; before = k .before; occurs = s; wrote = k .wrote }) (k .occurs)
+  committed-cases x c a h k =
+      occurs-cases (λ a h. CommitsNow a h x c) (by x (commits (k .place))) (k .before) a h (refl, k .wrote)
+      (λ s. record { place = k .place; before = k .before; occurs = s; wrote = k .wrote }) (k .occurs)
 
   pub read-cases : (x c : ℕ) (a : Event V V ℕ) (h : History V) → ReadGlobally (a ∷ h) x c → ReadsNow a h x c ⊎ ReadGlobally h x c
-  read-cases x c a h k = occurs-cases (λ a h. ReadsNow a h x c) (by x (reads c (k .value))) (k .before) a h (refl, refl, k .unwritten) (λ s. record { value = k .value; before = k .before; occurs = s; unwritten = k .unwritten }) (k .occurs)
+  read-cases x c a h k =
+      occurs-cases (λ a h. ReadsNow a h x c) (by x (reads c (k .value))) (k .before) a h (refl, refl, k .unwritten)
+      (λ s. record { value = k .value; before = k .before; occurs = s; unwritten = k .unwritten }) (k .occurs)
 
   -- who has ended has a place
   abbrev pub Ends : List (Operation V V ℕ) → Type 0
@@ -125,7 +131,9 @@ module _ {V : Type 0} where
   committed-place h x c k = place-when-ended x (k .place) (k .before) h (k .occurs)
 
   -- an active job has no place
-  active-unplaced-step : (y x : ℕ) (h : History V) (d : Operation V V ℕ) (b : Bool) → eqb y x ≡ b → WellFormed (by y d ∷ h) → (isActive (projection h x) ≡ true → endPlace (projection h x) ≡ None) → isActive (cond b (d ∷ projection h x) (projection h x)) ≡ true → endPlace (cond b (d ∷ projection h x) (projection h x)) ≡ None
+  active-unplaced-step : (y x : ℕ) (h : History V) (d : Operation V V ℕ) (b : Bool) → eqb y x ≡ b → WellFormed (by y d ∷ h) →
+      (isActive (projection h x) ≡ true → endPlace (projection h x) ≡ None) → isActive (cond b (d ∷ projection h x) (projection h x)) ≡ true →
+      endPlace (cond b (d ∷ projection h x) (projection h x)) ≡ None
   active-unplaced-step y x h d false e wf ih o = ih o
   active-unplaced-step y x h opens true e wf ih o = ap endPlace (unopened-projection h (wf .1) x (omega (arith, eqb-true y x e)))
   active-unplaced-step y x h (reads c v) true e wf ih o = ih o
@@ -146,7 +154,8 @@ module _ {V : Type 0} where
   acting-unplaced h x (abandons p) wf = active-unplaced h (wf .1) x (wf .0)
 
   -- whoever has a place since this event is the one whose event it is
-  place-step : (h : History V) (x z p : ℕ) (d : Operation V V ℕ) (b : Bool) → eqb x z ≡ b → endPlace (projection h z) ≡ None → endPlace (cond b (d ∷ projection h z) (projection h z)) ≡ Some p → (x ≡ z) × (endsAt d ≡ Some p)
+  place-step : (h : History V) (x z p : ℕ) (d : Operation V V ℕ) (b : Bool) → eqb x z ≡ b → endPlace (projection h z) ≡ None →
+      endPlace (cond b (d ∷ projection h z) (projection h z)) ≡ Some p → (x ≡ z) × (endsAt d ≡ Some p)
   place-step h x z p d false e n q = none-some p (sym n ∙ q)
   place-step h x z p opens true e n q = none-some p (sym n ∙ q)
   place-step h x z p (reads c v) true e n q = none-some p (sym n ∙ q)
@@ -246,7 +255,9 @@ module _ {V : Type 0} where
 
       go : ReadGlobally h y c ⊎ CommittedCell h y c → (o : Option ℕ) → endPlace (projection h y) ≡ o → ApartNow h b x (commits p) b′ wf tracked-before mv y x
       go (inl m) (Some q) f = had-some h b x (commits p) b′ wf tracked-before mv y q p f refl (omega (arith, tracked-before .below-read y c q m f, mv .sees-to c w′ .1))
-      go (inl m) None f = apart-none-some _ _ (b′ .low y) (b′ .high y) (b′ .low x) (b′ .high x) p (end-place-other h x y (commits p) (λ q. ne (sym q ∙ e)) ∙ f) (end-place-own h x (commits p)) (mv .sees-to c w′ .3 y (λ q. ne (q ∙ e)) m f)
+      go (inl m) None f =
+          apart-none-some _ _ (b′ .low y) (b′ .high y) (b′ .low x) (b′ .high x) p (end-place-other h x y (commits p) (λ q. ne (sym q ∙ e)) ∙ f)
+          (end-place-own h x (commits p)) (mv .sees-to c w′ .3 y (λ q. ne (q ∙ e)) m f)
       go (inr m) (Some q) f = had-some h b x (commits p) b′ wf tracked-before mv y q p f refl (omega (arith, tracked-before .below-written y c q m f, mv .sees-to c w′ .0))
       go (inr m) None f = let k = committed-place h y c m in none-some (k .0) (sym f ∙ k .1)
   now-apart h b x (abandons p) b′ wf tracked-before mv y z ne m = absurd m
@@ -261,10 +272,14 @@ module _ {V : Type 0} where
     where
       go : (y z : ℕ) → (y ≡ z → ⊥) → PrecedesNow (by x d) h y z ⊎ Precedes h y z → ApartNow h b x d b′ wf tracked-before mv y z
       go y z ne (inl k) = now-apart h b x d b′ wf tracked-before mv y z ne k
-      go y z ne (inr k) = apart-later (endPlace (projection h y)) (endPlace (projection h z)) (endPlace (projection (by x d ∷ h) y)) (endPlace (projection (by x d ∷ h) z)) (b .low y) (b .high y) (b .low z) (b .high z) (b′ .low y) (b′ .high y) (b′ .low z) (b′ .high z) (mv .closes-in y) (mv .closes-in z) (tracked-before .placed .apart y z ne k)
+      go y z ne (inr k) =
+          apart-later (endPlace (projection h y)) (endPlace (projection h z)) (endPlace (projection (by x d ∷ h) y)) (endPlace (projection (by x d ∷ h) z)) (b .low y)
+          (b .high y) (b .low z) (b .high z) (b′ .low y) (b′ .high y) (b′ .low z) (b′ .high z) (mv .closes-in y) (mv .closes-in z)
+          (tracked-before .placed .apart y z ne k)
 
   -- a job that has read and has no place is open
-  reader-step : (y x : ℕ) (d : Operation V V ℕ) (s : List (Operation V V ℕ)) (b : Bool) → (endPlace s ≡ None → isActive s ≡ true) → endPlace (cond b (d ∷ s) s) ≡ None → isActive (cond b (d ∷ s) s) ≡ true
+  reader-step : (y x : ℕ) (d : Operation V V ℕ) (s : List (Operation V V ℕ)) (b : Bool) → (endPlace s ≡ None → isActive s ≡ true) → endPlace (cond b (d ∷ s) s) ≡ None →
+      isActive (cond b (d ∷ s) s) ≡ true
   reader-step y x d s false ih n = ih n
   reader-step y x opens s true ih n = refl
   reader-step y x (reads c v) s true ih n = ih n

@@ -7,11 +7,12 @@ use Prim.Native.Nat.{ℕ, zero, suc, _+_, _≤_, _<_, min, max}
 use native.Mathlib.Omega.{arith}
 use lib.Dec.{eqb}
 use Rattle.std.proofs.shelf.Tests.{eqb-true, eqb-false, eq-eqb, ne-eqb, both-ways, and-from, or-left, or-right}
+use Rattle.std.specs.Options.{valueOr}
 use Rattle.std.specs.declared.option.Option.the-variants.{Some, None}
 use Rattle.history.specs.Events.{Operation, Event, History, openings, openJob, byJobs}
 use Rattle.history.specs.Events.Operation.{opens, reads, writes, commits, abandons}
 use Rattle.history.specs.Events.Event.{by}
-use Rattle.history.specs.Projections.{projection, buffered, isActive, orElse, endPlace}
+use Rattle.history.specs.Projections.{projection, buffered, isActive, endPlace}
 use Rattle.history.specs.Values.{committedValue, ReadsCurrent}
 use Rattle.history.specs.Precedence.{Wrote, ReadGlobally}
 use Rattle.history.specs.SerialExecution.{Opaque}
@@ -35,7 +36,9 @@ conflicts-from s w u zero c a b r k = absurd (omega arith)
 conflicts-from s w u (suc n) c a b r k = go (eqb c (suc n)) refl (conflicts-from s w u n c a)
   where
     go : (t : Bool) → eqb c (suc n) ≡ t → (c ≤ n → s .hasRead u c ≡ true → s .hasWritten w c ≡ true → conflicts s w u n ≡ true) → conflicts s w u (suc n) ≡ true
-    go true e ih = or-left (s .hasRead u (suc n) && s .hasWritten w (suc n)) (conflicts s w u n) (and-from (s .hasRead u (suc n)) (s .hasWritten w (suc n)) (rw (← eqb-true c (suc n) e) r) (rw (← eqb-true c (suc n) e) k))
+    go true e ih =
+        or-left (s .hasRead u (suc n) && s .hasWritten w (suc n)) (conflicts s w u n)
+        (and-from (s .hasRead u (suc n)) (s .hasWritten w (suc n)) (rw (← eqb-true c (suc n) e) r) (rw (← eqb-true c (suc n) e) k))
     go false e ih = or-right (s .hasRead u (suc n) && s .hasWritten w (suc n)) (conflicts s w u n) (ih (omega (arith, eqb-false c (suc n) e)) r k)
 
 -- what the tables of a view say of the run
@@ -71,14 +74,16 @@ module _ {V : Type 0} (top n : ℕ) (first : ℕ → V) (run : History V) (s : R
   job-of-open : (w : ℕ) → 1 ≤ openJob run w → 1 ≤ s .job w
   job-of-open w a = rw (facts .job-is w) a
 
-  own-read : (w c : ℕ) (v : V) → Accepts top n s w (reads c v) → (b : Bool) → s .hasWritten w c ≡ b → ((s .low w ≤ cond b (s .low w) (max (s .low w) (s .written c))) × (s .high w ≤ s .high w) × (cond b (s .low w) (max (s .low w) (s .written c)) + 2 ≤ s .high w)) × ((Wrote (byJobs run) (openJob run w) c → ⊥) → s .written c ≤ cond b (s .low w) (max (s .low w) (s .written c)))
+  own-read : (w c : ℕ) (v : V) → Accepts top n s w (reads c v) → (b : Bool) → s .hasWritten w c ≡ b →
+      ((s .low w ≤ cond b (s .low w) (max (s .low w) (s .written c))) × (s .high w ≤ s .high w) × (cond b (s .low w) (max (s .low w) (s .written c)) + 2 ≤ s .high w)) × ((Wrote (byJobs run) (openJob run w) c → ⊥) → s .written c ≤ cond b (s .low w) (max (s .low w) (s .written c)))
   own-read w c v ac true e = ((omega arith, omega arith, facts .room w (open-job-of w (ac .0))), λ nw. absurd (nw (written-when-flag w c (open-job-of w (ac .0)) e)))
   own-read w c v ac false e = ((omega arith, omega arith, ac .2 e), λ _. omega arith)
 
   raised : (w p q : ℕ) → 1 ≤ openJob run w → p ≡ q → (q ≤ max (s .highest) p) × ((c : ℕ) → ReadGlobally (byJobs run) (openJob run w) c → q ≤ cond (s .hasRead w c) (max (s .read c) p) (s .read c))
   raised w p q a e = (omega arith, λ c r. rw (facts .read-is w c a r) (omega arith))
 
-  lowered : (w p u : ℕ) → Accepts top n s w (commits p) → (u ≡ w → ⊥) → 1 ≤ openJob run u → (b : Bool) → conflicts s w u n ≡ b → (s .low u ≤ s .low u) × (cond b (min (s .high u) p) (s .high u) ≤ s .high u) × (s .low u + 2 ≤ cond b (min (s .high u) p) (s .high u))
+  lowered : (w p u : ℕ) → Accepts top n s w (commits p) → (u ≡ w → ⊥) → 1 ≤ openJob run u → (b : Bool) → conflicts s w u n ≡ b →
+      (s .low u ≤ s .low u) × (cond b (min (s .high u) p) (s .high u) ≤ s .high u) × (s .low u + 2 ≤ cond b (min (s .high u) p) (s .high u))
   lowered w p u ac ne a true e = (omega arith, omega arith, omega (arith, ac .4 u ne (job-of-open u a) e, facts .room u a))
   lowered w p u ac ne a false e = (omega arith, omega arith, facts .room u a)
 
@@ -86,7 +91,8 @@ module _ {V : Type 0} (top n : ℕ) (first : ℕ → V) (run : History V) (s : R
   written-later w p c ac true e = omega (arith, ac .3 c e .0)
   written-later w p c ac false e = omega arith
 
-  own-commit : (w p c : ℕ) → Accepts top n s w (commits p) → Wrote (byJobs run) (openJob run w) c → (s .written c < p) × (s .read c < p) × (p ≤ cond (s .hasWritten w c) p (s .written c)) × ((u : ℕ) → (u ≡ w → ⊥) → 1 ≤ openJob run u → ReadGlobally (byJobs run) (openJob run u) c → updated (λ u. cond (conflicts s w u n) (min (s .high u) p) (s .high u)) w 0 u ≤ p)
+  own-commit : (w p c : ℕ) → Accepts top n s w (commits p) → Wrote (byJobs run) (openJob run w) c →
+      (s .written c < p) × (s .read c < p) × (p ≤ cond (s .hasWritten w c) p (s .written c)) × ((u : ℕ) → (u ≡ w → ⊥) → 1 ≤ openJob run u → ReadGlobally (byJobs run) (openJob run u) c → updated (λ u. cond (conflicts s w u n) (min (s .high u) p) (s .high u)) w 0 u ≤ p)
   own-commit w p c ac wr =
       let f = flag-when-written w c (open-job-of w (ac .0)) wr in
       (ac .3 c f .0, ac .3 c f .1, rw f (omega arith), λ u ne a r. rw (ne-eqb w u (λ e. ne (sym e)), conflicts-from s w u n c (facts .range w c f .0) (facts .range w c f .1) (facts .read-is u c a r) f) (omega arith))
@@ -140,12 +146,13 @@ module _ {V : Type 0} (top n : ℕ) (first : ℕ → V) (run : History V) (s : R
   well-made-step w (commits p) ac wm = (open-job-of w (ac .0), wm)
   well-made-step w (abandons p) ac wm = (open-job-of w (ac .0), wm)
 
-  shown : (b : Bool) (o v : V) → cond b o v ≡ orElse (cond b (Some o) None) v
+  shown : (b : Bool) (o v : V) → cond b o v ≡ valueOr (cond b (Some o) None) v
   shown true o v = refl
   shown false o v = refl
 
-  own-or-value : (w c : ℕ) → 1 ≤ openJob run w → cond (s .hasWritten w c) (s .own w c) (s .value c) ≡ orElse (buffered (projection (byJobs run) (openJob run w)) c) (committedValue first (byJobs run) c)
-  own-or-value w c a = shown (s .hasWritten w c) (s .own w c) (s .value c) ∙ ap₂ orElse (sym (facts .own-is w c a)) (facts .value-is c)
+  own-or-value : (w c : ℕ) → 1 ≤ openJob run w →
+      cond (s .hasWritten w c) (s .own w c) (s .value c) ≡ valueOr (buffered (projection (byJobs run) (openJob run w)) c) (committedValue first (byJobs run) c)
+  own-or-value w c a = shown (s .hasWritten w c) (s .own w c) (s .value c) ∙ ap₂ valueOr (sym (facts .own-is w c a)) (facts .value-is c)
 
   reads-current-step : (w : ℕ) (d : Operation V V ℕ) → Accepts top n s w d → ReadsCurrent first (byJobs run) → ReadsCurrent first (byJobs (by w d ∷ run))
   reads-current-step w opens ac rc = rc
@@ -246,7 +253,8 @@ module _ {V : Type 0} (top n : ℕ) (first : ℕ → V) (run : History V) (s : R
       mine true e nw = absurd (nw (written-when-flag w c (open-job-of w (ac .0)) e))
       mine false e nw = refl
 
-      seen : (u k : ℕ) → 1 ≤ openJob run u → ((openJob run w ≡ openJob run u) × (c ≡ k) × (Wrote h (openJob run u) k → ⊥)) ⊎ ReadGlobally h (openJob run u) k → viewAfter top n s w (reads c v) .hasRead u k ≡ true
+      seen : (u k : ℕ) → 1 ≤ openJob run u → ((openJob run w ≡ openJob run u) × (c ≡ k) × (Wrote h (openJob run u) k → ⊥)) ⊎ ReadGlobally h (openJob run u) k →
+          viewAfter top n s w (reads c v) .hasRead u k ≡ true
       seen u k a (inl (e, f, nw)) = rw (eq-eqb w u (one-crew run w u (open-job-of w (ac .0)) e), eq-eqb c k f) (mine (s .hasWritten w c) refl (rw (e, f) nw))
       seen u k a (inr m) = flag u k (eqb w u) refl (facts .read-is u k a m)
 
@@ -273,7 +281,8 @@ module _ {V : Type 0} (top n : ℕ) (first : ℕ → V) (run : History V) (s : R
       mine k true = refl
       mine k false = facts .own-is w k (open-job-of w (ac .0))
 
-      owns : (u k : ℕ) → 1 ≤ openJob run u → (b : Bool) → eqb w u ≡ b → buffered (projection (by (openJob run w) (writes c v) ∷ h) (openJob run u)) k ≡ cond (cond b (updated (s .hasWritten w) c true) (s .hasWritten u) k) (Some (cond b (updated (s .own w) c v) (s .own u) k)) None
+      owns : (u k : ℕ) → 1 ≤ openJob run u → (b : Bool) → eqb w u ≡ b →
+          buffered (projection (by (openJob run w) (writes c v) ∷ h) (openJob run u)) k ≡ cond (cond b (updated (s .hasWritten w) c true) (s .hasWritten u) k) (Some (cond b (updated (s .own w) c v) (s .own u) k)) None
       owns u k a true e = rw (← eqb-true w u e, eq-eqb (openJob run w) (openJob run w) refl) (mine k (eqb c k))
       owns u k a false e = rw (ne-eqb (openJob run w) (openJob run u) (λ q. eqb-false w u e (one-crew run w u (open-job-of w (ac .0)) q))) (facts .own-is u k a)
 
@@ -294,11 +303,14 @@ module _ {V : Type 0} (top n : ℕ) (first : ℕ → V) (run : History V) (s : R
     ended-job : (u : ℕ) → updated (s .job) w 0 u ≡ cond (eqb w u) 0 (openJob run u)
     ended-job u = ap (cond (eqb w u) 0) (facts .job-is u)
 
-    ended-own : (d : Operation V V ℕ) → ((t : List (Operation V V ℕ)) (k : ℕ) → buffered (d ∷ t) k ≡ buffered t k) → (u k : ℕ) (b : Bool) → 1 ≤ cond b 0 (openJob run u) → buffered (projection (by (openJob run w) d ∷ byJobs run) (cond b 0 (openJob run u))) k ≡ cond (cond b (λ c. false) (s .hasWritten u) k) (Some (s .own u k)) None
+    ended-own : (d : Operation V V ℕ) → ((t : List (Operation V V ℕ)) (k : ℕ) → buffered (d ∷ t) k ≡ buffered t k) → (u k : ℕ) (b : Bool) → 1 ≤ cond b 0 (openJob run u) →
+        buffered (projection (by (openJob run w) d ∷ byJobs run) (cond b 0 (openJob run u))) k ≡ cond (cond b (λ c. false) (s .hasWritten u) k) (Some (s .own u k)) None
     ended-own d q u k true a = absurd (omega arith)
-    ended-own d q u k false a = buffered-either k (d ∷ projection (byJobs run) (openJob run u)) (projection (byJobs run) (openJob run u)) (eqb (openJob run w) (openJob run u)) (q _ k) ∙ facts .own-is u k a
+    ended-own d q u k false a =
+        buffered-either k (d ∷ projection (byJobs run) (openJob run u)) (projection (byJobs run) (openJob run u)) (eqb (openJob run w) (openJob run u)) (q _ k) ∙ facts .own-is u k a
 
-    ended-read : (a : Event V V ℕ) → ((x k : ℕ) → ReadGlobally (a ∷ byJobs run) x k → ReadGlobally (byJobs run) x k) → (u k : ℕ) (b : Bool) → 1 ≤ cond b 0 (openJob run u) → ReadGlobally (a ∷ byJobs run) (cond b 0 (openJob run u)) k → cond b (λ c. false) (s .hasRead u) k ≡ true
+    ended-read : (a : Event V V ℕ) → ((x k : ℕ) → ReadGlobally (a ∷ byJobs run) x k → ReadGlobally (byJobs run) x k) → (u k : ℕ) (b : Bool) →
+        1 ≤ cond b 0 (openJob run u) → ReadGlobally (a ∷ byJobs run) (cond b 0 (openJob run u)) k → cond b (λ c. false) (s .hasRead u) k ≡ true
     ended-read a f u k true l r = absurd (omega arith)
     ended-read a f u k false l r = facts .read-is u k l (f (openJob run u) k r)
 
@@ -310,7 +322,8 @@ module _ {V : Type 0} (top n : ℕ) (first : ℕ → V) (run : History V) (s : R
     ended-range u k true q = absurd (both-ways false refl q)
     ended-range u k false q = facts .range u k q
 
-    ended-room : (h : ℕ → ℕ) → ((u : ℕ) → (u ≡ w → ⊥) → 1 ≤ openJob run u → s .low u + 2 ≤ h u) → (u : ℕ) (b : Bool) → eqb w u ≡ b → 1 ≤ cond b 0 (openJob run u) → cond b 0 (s .low u) + 2 ≤ cond b 0 (h u)
+    ended-room : (h : ℕ → ℕ) → ((u : ℕ) → (u ≡ w → ⊥) → 1 ≤ openJob run u → s .low u + 2 ≤ h u) → (u : ℕ) (b : Bool) → eqb w u ≡ b → 1 ≤ cond b 0 (openJob run u) →
+        cond b 0 (s .low u) + 2 ≤ cond b 0 (h u)
     ended-room h f u true e a = absurd (omega arith)
     ended-room h f u false e a = f u (λ q. eqb-false w u e (sym q)) a
 
@@ -357,7 +370,16 @@ pub record RunFacts {V : Type 0} (top n : ℕ) (first : ℕ → V) (run : Histor
 
 pub run-facts : {V : Type 0} (top n : ℕ) (first : ℕ → V) (own : ℕ → ℕ → V) {run : History V} {s : RegisterView V} → ViewRun top n first own run s → RunFacts top n first run s
 run-facts top n first own starts = record {
-  view-facts = record { job-is = λ w. refl; opened-is = refl; value-is = λ c. refl; own-is = λ w c a. absurd (omega arith); read-is = λ w c a r. absurd (omega arith); closed-is = λ w c q. refl; range = λ w c q. absurd (both-ways false refl q); room = λ w a. absurd (omega arith) };
+  view-facts = record {
+    job-is = λ w. refl;
+    opened-is = refl;
+    value-is = λ c. refl;
+    own-is = λ w c a. absurd (omega arith);
+    read-is = λ w c a r. absurd (omega arith);
+    closed-is = λ w c q. refl;
+    range = λ w c q. absurd (both-ways false refl q);
+    room = λ w a. absurd (omega arith);
+  };
   well-made = tt;
   reads-current = tt;
 }
@@ -369,7 +391,8 @@ run-facts top n first own (goes-on {run = run} {s = s} {w = w} {o = d} g ac) = l
 
 pub crew-run : {V : Type 0} (top n : ℕ) (first : ℕ → V) (own : ℕ → ℕ → V) {run : History V} {s : RegisterView V} → ViewRun top n first own run s → CrewRun top run (boundsOf s)
 crew-run top n first own starts = CrewRun.starts (λ w. 0) (λ w. 0)
-crew-run top n first own (goes-on {run = run} {s = s} {w = w} {o = d} g ac) = CrewRun.goes-on (crew-run top n first own g) (crew-moves top n first run s (run-facts top n first own g .view-facts) w d ac)
+crew-run top n first own (goes-on {run = run} {s = s} {w = w} {o = d} g ac) =
+    CrewRun.goes-on (crew-run top n first own g) (crew-moves top n first run s (run-facts top n first own g .view-facts) w d ac)
 
 pub views-opaque : {V : Type 0} (first : ℕ → V) (own : ℕ → ℕ → V) (top n : ℕ) (run : History V) (s : RegisterView V) → 2 ≤ top → ViewRun top n first own run s → Opaque first run
 views-opaque first own top n run s t g = let k = run-facts top n first own g in bounds-opaque first top run (boundsOf s) t (k .well-made) (k .reads-current) (crew-run top n first own g)

@@ -5,6 +5,7 @@ use mathlib.Core.List.{List, [], _∷_}
 use mathlib.Core.Bool.{Bool, true, false, cond, _&&_}
 use Prim.Native.Nat.{ℕ, suc}
 use lib.Dec.{eqb}
+use Rattle.std.specs.Options.{isSome}
 use Rattle.std.specs.declared.option.Option.{Option}
 use Rattle.std.specs.declared.option.Option.the-variants.{Some, None}
 
@@ -51,10 +52,6 @@ endsAt (reads c v) = None
 endsAt (writes c v) = None
 endsAt (commits p) = Some p
 endsAt (abandons p) = Some p
-
-abbrev pub isSome : {A : Type 0} → Option A → Bool
-isSome (Some a) = true
-isSome None = false
 
 abbrev pub isEnding : {V R P : Type 0} → Operation V R P → Bool
 isEnding o = isSome (endsAt o)

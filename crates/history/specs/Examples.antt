@@ -5,6 +5,8 @@ use mathlib.Core.List.{List, [], _∷_}
 use mathlib.Core.Bool.{true, cond}
 use Prim.Native.Nat.{ℕ, _^_}
 use lib.Dec.{eqb}
+use Rattle.choosers.specs.Meaning.{Meaning, KeepsLaw}
+use Rattle.choosers.specs.Script.{scriptMeaning}
 use Rattle.history.specs.Events.{Events, History, isOpening, openJob, byJobs}
 use Rattle.history.specs.Events.Operation.{opens, reads, writes, commits}
 use Rattle.history.specs.Events.Event.{by}
@@ -12,7 +14,7 @@ use Rattle.history.specs.Values.{ReadsCurrent}
 use Rattle.history.specs.Precedence.{Precedes, In, StandsBefore, SerializationOrder}
 use Rattle.history.specs.SerialExecution.{SeriallyExplained}
 use Rattle.history.specs.WellMade.{WellMade, Calls, callsOf, WellMadeList}
-use Rattle.history.specs.Acceptance.{scriptChooser, Sizes, AcceptedWith}
+use Rattle.history.specs.Acceptance.{Sizes, AcceptedWith}
 
 -- cell 1 has 10 at first, and every other 20
 abbrev pub firstValues : ℕ → ℕ
@@ -32,7 +34,8 @@ pub record CrossedReadsHaveNoOrder : Type 0 where
   pub one-before-two : Precedes (byJobs crossedReads) 1 2
   pub two-before-one : Precedes (byJobs crossedReads) 2 1
   pub no-order : (row : List ℕ) → SerializationOrder (byJobs crossedReads) row → ⊥
-  pub no-script : (numbers : List ℕ) → AcceptedWith scriptChooser small firstValues (λ w c. 0) numbers crossedReads → ⊥
+  -- so no chooser that keeps the law has all calls accepted
+  pub never-accepted : (f : Meaning) → KeepsLaw f → AcceptedWith f small firstValues (λ w c. 0) crossedReads → ⊥
 
 ---- Overtaking: job 2 reads cell 1 before job 1 has put 15 into it, commits after job 1, and stands before it
 
@@ -50,7 +53,7 @@ OneAtATime (by w o ∷ run) = (isOpening o ≡ true → (u : ℕ) → openJob ru
 
 pub record OvertakingHasAnOrder : Type 0 where
   -- the script 6, 3 has all calls accepted, and with the answers that stand there
-  pub accepted : AcceptedWith scriptChooser small firstValues (λ w c. 0) (6 ∷ 3 ∷ []) (callsOf overtaking)
+  pub accepted : AcceptedWith (scriptMeaning (6 ∷ 3 ∷ [])) small firstValues (λ w c. 0) (callsOf overtaking)
   pub the-same-run : accepted .run ≡ overtaking
   -- job 2 first, and then job 1
   pub order : SerializationOrder (byJobs overtaking) (1 ∷ 2 ∷ [])
@@ -73,7 +76,7 @@ pub record ReadSkewIsNotExplained : Type 0 where
   pub two-before-one : Precedes (byJobs readSkew) 2 1
   pub not-explained : (row : List ℕ) → In 2 row → SeriallyExplained firstValues (byJobs readSkew) row → ⊥
   pub no-order : (row : List ℕ) → SerializationOrder (byJobs readSkew) row → ⊥
-  pub no-script : (numbers : List ℕ) → AcceptedWith scriptChooser small firstValues (λ w c. 0) numbers (callsOf readSkew) → ⊥
+  pub never-accepted : (f : Meaning) → KeepsLaw f → AcceptedWith f small firstValues (λ w c. 0) (callsOf readSkew) → ⊥
 
 ---- Real time: two jobs of different cells stand in the order of time if one ended before the other opened, and else in either order
 

@@ -4,6 +4,7 @@ use mathlib.Core.List.{List, [], _∷_}
 use mathlib.Core.Bool.{Bool, true, false, cond, not, _&&_, _||_}
 use Prim.Native.Nat.{ℕ, suc}
 use lib.Dec.{eqb}
+use Rattle.std.specs.Options.{orOther}
 use Rattle.std.specs.declared.option.Option.{Option}
 use Rattle.std.specs.declared.option.Option.the-variants.{Some, None}
 use Rattle.history.specs.Events.{Operation, Events, isOpening, isCommit, endsAt, isEnding, openings}
@@ -32,20 +33,10 @@ abbrev pub isActive : {V R P : Type 0} → List (Operation V R P) → Bool
 isActive [] = false
 isActive (o ∷ s) = isOpening o || (not (isEnding o) && isActive s)
 
--- the value, or another where there is none
-abbrev pub orElse : {V : Type 0} → Option V → V → V
-orElse (Some v) w = v
-orElse None w = w
-
--- the one, or the other where there is none
-abbrev pub firstOf : {A : Type 0} → Option A → Option A → Option A
-firstOf (Some a) b = Some a
-firstOf None b = b
-
 -- the place at which a job ended, if it has
 abbrev pub endPlace : {V R P : Type 0} → List (Operation V R P) → Option P
 endPlace [] = None
-endPlace (o ∷ s) = firstOf (endsAt o) (endPlace s)
+endPlace (o ∷ s) = orOther (endsAt o) (endPlace s)
 
 -- Each job opens once, the k-th as job k, and does the rest while it is active.
 abbrev pub WellFormed : {V R P : Type 0} → Events V R P → Type 0

@@ -4,11 +4,12 @@ use mathlib.Core.List.{List, [], _∷_}
 use mathlib.Core.Bool.{cond}
 use Prim.Native.Nat.{ℕ}
 use lib.Dec.{eqb}
+use Rattle.std.specs.Options.{valueOr}
 use Rattle.std.specs.declared.option.Option.{Option}
 use Rattle.std.specs.declared.option.Option.the-variants.{Some, None}
 use Rattle.history.specs.Events.{Operation, History, byJobs}
 use Rattle.history.specs.Events.Operation.{opens, reads, writes, commits, abandons}
-use Rattle.history.specs.Projections.{projection, orElse}
+use Rattle.history.specs.Projections.{projection}
 use Rattle.history.specs.Values.{committedValue, observed}
 use Rattle.history.specs.Precedence.{Extends, SerializationOrder}
 
@@ -22,9 +23,9 @@ pub record SerialState (V : Type 0) : Type 0 where
 -- a commit puts the held values into their cells; to abandon puts none
 abbrev pub perform : {V P : Type 0} → Operation V V P → SerialState V → SerialState V
 perform opens k = record { cells = k .cells; buffer = λ c. None; observed = k .observed }
-perform (reads c v) k = record { cells = k .cells; buffer = k .buffer; observed = orElse (k .buffer c) (k .cells c) ∷ k .observed }
+perform (reads c v) k = record { cells = k .cells; buffer = k .buffer; observed = valueOr (k .buffer c) (k .cells c) ∷ k .observed }
 perform (writes c v) k = record { cells = k .cells; buffer = λ d. cond (eqb c d) (Some v) (k .buffer d); observed = k .observed }
-perform (commits p) k = record { cells = λ c. orElse (k .buffer c) (k .cells c); buffer = k .buffer; observed = k .observed }
+perform (commits p) k = record { cells = λ c. valueOr (k .buffer c) (k .cells c); buffer = k .buffer; observed = k .observed }
 perform (abandons p) k = k
 
 -- a job's steps in their order, over these values; a job that is still open has put none

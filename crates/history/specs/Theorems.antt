@@ -1,7 +1,9 @@
 -- The theorems, each for every type V of values. The functions of src/ that have them for contracts have the same names in small letters.
-use mathlib.Core.List.{List, []}
+use mathlib.Core.List.{List, reverse}
 use mathlib.Core.Logic.{_↔_}
 use Prim.Native.Nat.{ℕ, _+_, _≤_}
+use Rattle.choosers.specs.Meaning.{Meaning, KeepsLaw}
+use Rattle.choosers.specs.Script.{scriptMeaning}
 use Rattle.history.specs.Events.{History, openings, byJobs}
 use Rattle.history.specs.Projections.{WellFormed}
 use Rattle.history.specs.Values.{ReadsCurrent}
@@ -10,7 +12,7 @@ use Rattle.history.specs.SerialExecution.{SeriallyExplained, Opaque}
 use Rattle.history.specs.WellMade.{WellMade, Calls, callsOf, WellMadeList}
 use Rattle.history.specs.Bounds.{Placed, sortKey, Ascending, Bounds, Tracked, boundsByJob, CrewRun}
 use Rattle.history.specs.Views.{RegisterView, ViewRun, ViewAgrees}
-use Rattle.history.specs.Acceptance.{AcceptedAt, position, positions, Chooser, KeepsLaw, scriptChooser, reverseOnto, Sizes, RunWith, AcceptedWith}
+use Rattle.history.specs.Acceptance.{AcceptedAt, position, positions, Sizes, RunWith, AcceptedWith}
 
 ---- Serial execution explains what a register told
 
@@ -72,27 +74,24 @@ abbrev pub PositionsAreAccepted : Type 0 → Type 0
 PositionsAreAccepted V = (first : ℕ → V) (own : ℕ → ℕ → V) (top cells crews entries : ℕ) (calls : Calls V) → entries + 2 ≤ top → WellMadeList cells crews entries calls →
     (row : List ℕ) → SerializationOrder (byJobs calls) row → AcceptedAt top cells first own calls (positions (position row) calls)
 
-abbrev pub ScriptsKeepTheLaw : Type 0
-ScriptsKeepTheLaw = KeepsLaw scriptChooser
-
 -- a well-made list has a serialization order if and only if there is a script with which a register that asks it for each place accepts every call of the list
 abbrev pub ScriptsArePermissive : Type 0 → Type 0
 ScriptsArePermissive V = (first : ℕ → V) (own : ℕ → ℕ → V) (z : Sizes) (calls : Calls V) → z .entries + 2 ≤ z .top → WellMadeList (z .cells) (z .crews) (z .entries) calls →
-    ((row : List ℕ) × SerializationOrder (byJobs calls) row) ↔ ((numbers : List ℕ) × AcceptedWith scriptChooser z first own numbers calls)
+    ((row : List ℕ) × SerializationOrder (byJobs calls) row) ↔ ((numbers : List ℕ) × AcceptedWith (scriptMeaning numbers) z first own calls)
 
 -- and such a script has the positions of the jobs in a serialization order, as the jobs end
 abbrev pub PositionsMakeAScript : Type 0 → Type 0
 PositionsMakeAScript V = (first : ℕ → V) (own : ℕ → ℕ → V) (z : Sizes) (calls : Calls V) → z .entries + 2 ≤ z .top → WellMadeList (z .cells) (z .crews) (z .entries) calls →
-    (row : List ℕ) → SerializationOrder (byJobs calls) row → AcceptedWith scriptChooser z first own (reverseOnto (positions (position row) calls) []) calls
+    (row : List ℕ) → SerializationOrder (byJobs calls) row → AcceptedWith (scriptMeaning (reverse (positions (position row) calls))) z first own calls
 
 ---- With any chooser that keeps the law
 
 -- a run with a chooser is a run at the places that the chooser gave, so that all that is said of views holds of it
-abbrev pub ChosenRunsAreViewRuns : Type 0 → Type 0 → Type 0
-ChosenRunsAreViewRuns V C = (chooser : Chooser C) (k₀ : C) (first : ℕ → V) (own : ℕ → ℕ → V) (z : Sizes) (run : History V) (s : RegisterView V) (k : C) → KeepsLaw chooser →
-    RunWith chooser z first own k₀ run s k → ViewRun (z .top) (z .cells) first own run s
+abbrev pub ChosenRunsAreViewRuns : Type 0 → Type 0
+ChosenRunsAreViewRuns V = (f₀ : Meaning) (first : ℕ → V) (own : ℕ → ℕ → V) (z : Sizes) (run : History V) (s : RegisterView V) (f : Meaning) → KeepsLaw f₀ →
+    RunWith f₀ z first own run s f → ViewRun (z .top) (z .cells) first own run s
 
 -- so a list whose every call is accepted has a serialization order
-abbrev pub ChosenPlacesGiveAnOrder : Type 0 → Type 0 → Type 0
-ChosenPlacesGiveAnOrder V C = (chooser : Chooser C) (k₀ : C) (first : ℕ → V) (own : ℕ → ℕ → V) (z : Sizes) (calls : Calls V) → KeepsLaw chooser → 2 ≤ z .top →
-    AcceptedWith chooser z first own k₀ calls → (row : List ℕ) × SerializationOrder (byJobs calls) row
+abbrev pub ChosenPlacesGiveAnOrder : Type 0 → Type 0
+ChosenPlacesGiveAnOrder V = (f₀ : Meaning) (first : ℕ → V) (own : ℕ → ℕ → V) (z : Sizes) (calls : Calls V) → KeepsLaw f₀ → 2 ≤ z .top →
+    AcceptedWith f₀ z first own calls → (row : List ℕ) × SerializationOrder (byJobs calls) row

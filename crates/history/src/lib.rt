@@ -1,7 +1,7 @@
 // Histories of a register's calls, and the theorems about them. The functions return nothing of use: each has a theorem for its contract.
 ghost use Rattle.history.specs.Theorems.{WellMadeRunsAreWellFormed, RespectfulOrdersExplain, SerializationOrdersExplain, AscendingRowsAreOrders, PlacesGiveAnOrder};
 ghost use Rattle.history.specs.Theorems.{MovedBoundsAgree, BoundsAreOpaque, ViewsAgree, ViewsAreOpaque};
-ghost use Rattle.history.specs.Theorems.{AnswersDoNotMatter, ViewsArePermissive, PositionsAreAccepted, ScriptsKeepTheLaw, ScriptsArePermissive, PositionsMakeAScript};
+ghost use Rattle.history.specs.Theorems.{AnswersDoNotMatter, ViewsArePermissive, PositionsAreAccepted, ScriptsArePermissive, PositionsMakeAScript};
 ghost use Rattle.history.specs.Theorems.{ChosenRunsAreViewRuns, ChosenPlacesGiveAnOrder};
 ghost use Rattle.history.specs.Examples.{CrossedReadsHaveNoOrder, OvertakingHasAnOrder, ReadSkewIsNotExplained, RealTimeIsKept};
 
@@ -83,12 +83,6 @@ pub fn positions_are_accepted<V>() -> u8
     0
 }
 
-pub fn scripts_keep_the_law() -> u8
-    ensures { λ _. ⌜ ScriptsKeepTheLaw ⌝ }
-{
-    0
-}
-
 pub fn scripts_are_permissive<V>() -> u8
     ensures { λ _. ⌜ ScriptsArePermissive V ⌝ }
 {
@@ -103,14 +97,14 @@ pub fn positions_make_a_script<V>() -> u8
 
 // Any chooser that keeps the law
 
-pub fn chosen_runs_are_view_runs<V, C>() -> u8
-    ensures { λ _. ⌜ ChosenRunsAreViewRuns V C ⌝ }
+pub fn chosen_runs_are_view_runs<V>() -> u8
+    ensures { λ _. ⌜ ChosenRunsAreViewRuns V ⌝ }
 {
     0
 }
 
-pub fn chosen_places_give_an_order<V, C>() -> u8
-    ensures { λ _. ⌜ ChosenPlacesGiveAnOrder V C ⌝ }
+pub fn chosen_places_give_an_order<V>() -> u8
+    ensures { λ _. ⌜ ChosenPlacesGiveAnOrder V ⌝ }
 {
     0
 }

@@ -1,9 +1,11 @@
 -- The heads as plain numbers.
-use Prim.Native.Nat.{ℕ, _≤_}
+use mathlib.Core.Path.{_≡_}
+use mathlib.Core.Bool.{true}
+use Prim.Native.Nat.{ℕ}
 use Rattle.rules.specs.declared.sizes.Sizes.{Sizes}
 use Rattle.rules.specs.declared.head.Filling.{Filling}
 use Rattle.rules.specs.declared.head.Started.{Started}
-use Rattle.rules.specs.Limits.{mostCells, mostCrews, mostEntries}
+use Rattle.rules.specs.Limits.{inRange}
 
 pub record Dimensions : Type 0 where
   pub cells : ℕ
@@ -14,13 +16,8 @@ abbrev pub dimensionsOf : Sizes → Dimensions
 dimensionsOf s = record { cells = s .cells; crews = s .crews; entries = s .entries }
 
 -- what is known of the sizes of every register that was made
-pub record SizesInRange (sizes : Dimensions) : Type 0 where
-  pub some-cells : 1 ≤ sizes .cells
-  pub cells-fit : sizes .cells ≤ mostCells
-  pub some-crews : 1 ≤ sizes .crews
-  pub crews-fit : sizes .crews ≤ mostCrews
-  pub some-entries : 1 ≤ sizes .entries
-  pub entries-fit : sizes .entries ≤ mostEntries
+abbrev pub SizesInRange : Dimensions → Type 0
+SizesInRange sizes = inRange (sizes .cells) (sizes .crews) (sizes .entries) ≡ true
 
 pub record FillingHead : Type 0 where
   pub sizes : Dimensions
