@@ -1,0 +1,3 @@
+// The five job calls.
+pub mod opening;
+pub mod writing;
