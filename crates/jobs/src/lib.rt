@@ -1,3 +1,5 @@
 // The five job calls.
+pub mod abandoning;
 pub mod opening;
+pub mod reading;
 pub mod writing;
