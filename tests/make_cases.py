@@ -1,7 +1,8 @@
 #!/usr/bin/env python3
 """Writes the case file, its expected output and CASES.md.
 
-    make_cases.py CASES_FOLDER
+    make_cases.py CASES_FOLDER            write them anew
+    make_cases.py --check CASES_FOLDER    write the cases alone, and leave CASES.md as it is
 
 Every case stands below with the answer worked out from docs/FORMAT.md by
 hand. The answer written to CASES_FOLDER/stdout comes from account.py; the
@@ -450,9 +451,8 @@ works out the same answers from the schedule's bytes. The two agree on all
 answers of the cases marked * are lines repeated or counted out by a formula
 ({formula}); all others were written out in full by hand.
 
-After a change: `python3 make_cases.py FOLDER`. More cases, not kept:
-`python3 account.py --random SEED COUNT > stdin`, then
-`python3 account.py --cases stdin > stdout`.
+After a change: `python3 tests/make_cases.py crates/schedule_cases`. More cases, not kept:
+`tests/compare.sh SEED COUNT` compares random ones with the program.
 
 Below, by group: the rule, then for each case its number, the bad line if there
 is one, what it shows, its answer. In a bad line `\\r` is a carriage return and
@@ -483,7 +483,7 @@ def bad_line(schedule, answer):
     return "`%s`: " % repr(lines[at])[2:-1]
 
 
-def main(folder):
+def main(folder, with_notes):
     cases, hand, notes, marked = [], [], [], []
     for title, rule, group in GROUPS:
         notes.append("\n## %s\n\n%s\n" % (title, rule))
@@ -514,14 +514,18 @@ def main(folder):
         file.write(text)
     with open(os.path.join(folder, "stdout"), "wb") as file:
         file.write(account.expected(cases))
-    here = os.path.dirname(os.path.abspath(__file__))
-    with open(os.path.join(here, "CASES.md"), "w", encoding="utf-8") as file:
-        file.write(INTRO.format(count=len(cases), formula=", ".join(marked)))
-        file.write("\n".join(notes) + "\n")
+    if with_notes:
+        here = os.path.dirname(os.path.abspath(__file__))
+        with open(os.path.join(here, "CASES.md"), "w", encoding="utf-8") as file:
+            file.write(INTRO.format(count=len(cases), formula=", ".join(marked)))
+            file.write("\n".join(notes) + "\n")
     print("%d cases, all agree" % len(cases))
 
 
 if __name__ == "__main__":
-    if len(sys.argv) != 2:
+    if len(sys.argv) == 2 and sys.argv[1] != "--check":
+        main(sys.argv[1], True)
+    elif len(sys.argv) == 3 and sys.argv[1] == "--check":
+        main(sys.argv[2], False)
+    else:
         sys.exit(__doc__)
-    main(sys.argv[1])

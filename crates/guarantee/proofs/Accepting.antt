@@ -1,12 +1,11 @@
 -- Where the view accepts a call, the register accepts it, and goes on abreast of the view.
 use mathlib.Core.Path.{_≡_, refl, sym, ap, ap₂, subst, subst₂, _∙_}
-use mathlib.Core.Bool.{Bool, true, false, cond, not, _&&_, _||_}
+use mathlib.Core.Bool.{Bool, true, false, cond, not, _&&_}
 use mathlib.Core.List.{List, [], _∷_}
-use Prim.Native.Nat.{ℕ, suc, _+_, _-_, _*_, _≤_}
+use Prim.Native.Nat.{ℕ, _+_, _-_, _≤_}
 use native.Mathlib.Omega.{arith}
 use lib.Dec.{eqb, ltb}
 use lib.ListN.{length}
-use Rattle.std.proofs.shelf.Lists.{length-set}
 use Rattle.std.proofs.shelf.Tests.{eq-eqb, ne-eqb, le-ltb, or-from, not-from-true, ltb-true, cond-both}
 use Rattle.std.specs.declared.option.Option.{Option}
 use Rattle.std.specs.declared.option.Option.the-variants.{Some, None}
@@ -22,11 +21,11 @@ use Rattle.choosers.specs.Script.{scriptMeaning}
 use Rattle.history.specs.Acceptance.{AcceptsWith, AtWork, Sizes, chooserAfter, commitLowerBound, scriptChooser}
 use Rattle.history.specs.Events.{Operation}
 use Rattle.history.specs.Events.Operation.{abandons, commits, opens, reads, writes}
-use Rattle.history.specs.Views.{RegisterView, updated, viewAfter}
+use Rattle.history.specs.Views.{RegisterView, viewAfter}
 use Rattle.history.specs.WellMade.{UpTo}
 use Rattle.history.proofs.Alike.{SameCall}
 use Rattle.history.proofs.Alike.SameCall.{abandon-abandon, commit-commit, open-open, read-read, write-write}
-use Rattle.rules.specs.Contents.{Fits}
+use Rattle.rules.specs.Heads.{Dimensions}
 use Rattle.rules.specs.JobCalls.{Outcome, abandonOutcome, abandonedAt, accepted, commitLow, committedAt, crewOf, damaged, isOpening, openOutcome, outcome, raisedLow, readCell, readOwn, refused, testsOf, writeOutcome, wrongCell}
 use Rattle.rules.specs.Limits.{top}
 use Rattle.rules.specs.Performing.{Entered, Performs, movedIf, withBook}
@@ -37,13 +36,13 @@ use Rattle.rules.specs.declared.calls.Answer.{Answer}
 use Rattle.rules.specs.declared.calls.Answer.the-variants.{Ended}
 use Rattle.rules.specs.declared.calls.Call.{Call}
 use Rattle.rules.specs.declared.calls.Call.the-variants.{Abandon, Commit, Open, Read, Write}
-use Rattle.rules.proofs.Changing.{length-each}
 use Rattle.guarantee.specs.Histories.{operation}
 use Rattle.guarantee.specs.Permissiveness.{IsAccepted}
-use Rattle.guarantee.proofs.Bounding.{commit-low-floor}
-use Rattle.guarantee.proofs.Counting.{busy, busy-at, busy-put, length-cleared, one-no, one-yes}
+use Rattle.guarantee.proofs.Bounding.{commit-low-bound}
+use Rattle.guarantee.proofs.Counting.{busy-at}
 use Rattle.guarantee.proofs.Invariant.{tie-book}
-use Rattle.guarantee.proofs.Passing.{None-of, Sized, Working}
+use Rattle.guarantee.proofs.Opacity.{b}
+use Rattle.guarantee.proofs.Passing.{None-of, Sized, Working, not-damaged}
 use Rattle.guarantee.proofs.Scripts.{gives-same, next-same}
 use Rattle.guarantee.proofs.Tied.{Tie, Tied, of-open, tie-abandon, tie-cell, tie-commit, tie-open, tie-own, tie-write, tied-by-job}
 
@@ -51,13 +50,9 @@ abbrev pub sizes-of : {V : Type 0} → Register V → Sizes
 sizes-of s = record { top = top; cells = s .head .sizes .cells; crews = s .head .sizes .crews; entries = s .head .sizes .entries }
 
 -- the register r, with a chooser that means f, against a view and what is left of the script
-pub record Abreast {V : Type 0} (d : V) (z : Sizes) (view : RegisterView V) (xs : List ℕ) (r : Register V) (f : Meaning) : Type 0 where
+pub record Abreast {V : Type 0} (d : V) (s : Register V) (view : RegisterView V) (xs : List ℕ) (r : Register V) (f : Meaning) : Type 0 where
   pub tie : Tie d r view
-  pub fits : Fits (r .head .sizes) (r .tables)
-  pub n-is : r .head .sizes .cells ≡ z .cells
-  pub m-is : r .head .sizes .crews ≡ z .crews
-  pub b-is : r .head .sizes .entries ≡ z .entries
-  pub active-is : r .head .active ≡ busy (view .job) (r .head .sizes .crews)
+  pub same-sizes : r .head .sizes ≡ s .head .sizes
   pub means : f ≡ scriptMeaning xs
 
 none-refused : (ts : Tests) → None-of ts → firstRefusal ts ≡ None
@@ -74,30 +69,39 @@ closed-job : (b : Bool) (j : _) (x l h : ℕ) → Tied b j x l h → x ≡ 0 →
 closed-job true j x l h t e = absurd (omega (arith, t .1))
 closed-job false j x l h t e = refl
 
-module _ {V : Type 0} (d : V) (q : Register V) (view : RegisterView V) (xs : List ℕ) (r : Register V) (f : Meaning) (ab : Abreast d (sizes-of q) view xs r f) where
+module _ {V : Type 0} (d : V) (q : Register V) (view : RegisterView V) (xs : List ℕ) (r : Register V) (f : Meaning) (ab : Abreast d q view xs r f) where
   abbrev z : Sizes
   z = sizes-of q
 
+  n-is : r .head .sizes .cells ≡ q .head .sizes .cells
+  n-is = ap (λ (sizes : Dimensions). sizes .cells) (ab .same-sizes)
+
+  m-is : r .head .sizes .crews ≡ q .head .sizes .crews
+  m-is = ap (λ (sizes : Dimensions). sizes .crews) (ab .same-sizes)
+
+  b-is : r .head .sizes .entries ≡ q .head .sizes .entries
+  b-is = ap (λ (sizes : Dimensions). sizes .entries) (ab .same-sizes)
+
   -- what follows from an outcome
   abbrev Done : Outcome V → RegisterView V → List ℕ → Type 0
-  Done o view′ ys = (bk : List Entry) → Entered (r .head .ended) (o .entry) (r .tables .book) bk → IsAccepted (o .answer) × Abreast d z view′ ys (withBook (o .left) bk) (movedIf f (o .asked))
+  Done o view′ ys = (bk : List Entry) → Entered (r .head .ended) (o .entry) (r .tables .book) bk → IsAccepted (o .answer) × Abreast d q view′ ys (withBook (o .left) bk) (movedIf f (o .asked))
 
   passes : (k : Call V) → outside (r .head .sizes .crews) (crewOf k) ≡ false → wrongCell (r .head .sizes .cells) k ≡ false → (isOpening k && hasJob r (crewOf k)) ≡ false → (not (isOpening k) && not (hasJob r (crewOf k))) ≡ false → (not (isOpening k) && damaged r (crewOf k)) ≡ false →
       (isOpening k && ltb top (r .head .highest + 2)) ≡ false → (isOpening k && eqb (r .head .ended + r .head .active) (r .head .sizes .entries)) ≡ false → outcome d (f []) r k ≡ accepted d (f []) r k
   passes k a b c e g h i = ap (λ (o : Option Refusal). ifRefused o (λ e. refused e r) (accepted d (f []) r k)) (none-refused (testsOf r k) (
-    size-passes _ _ (ab .fits .values),
+    size-passes _ _ (ab .tie .fits .values),
     (
-      size-passes _ _ (ab .fits .written),
+      size-passes _ _ (ab .tie .fits .written),
       (
-        size-passes _ _ (ab .fits .read),
+        size-passes _ _ (ab .tie .fits .read),
         (
-          size-passes _ _ (ab .fits .jobs),
+          size-passes _ _ (ab .tie .fits .jobs),
           (
-            size-passes _ _ (ab .fits .own),
+            size-passes _ _ (ab .tie .fits .own),
             (
-              size-passes _ _ (ab .fits .flags),
+              size-passes _ _ (ab .tie .fits .flags),
               (
-                size-passes _ _ (ab .fits .book),
+                size-passes _ _ (ab .tie .fits .book),
                 (a, (b, (c, (e, (g, (h, (i, tt))))))),
               ),
             ),
@@ -109,9 +113,9 @@ module _ {V : Type 0} (d : V) (q : Register V) (view : RegisterView V) (xs : Lis
 
   sized : (w : ℕ) → UpTo (z .crews) w → Sized r w
   sized w u = record {
-    fits = ab .fits;
+    fits = ab .tie .fits;
     from-one = u .0;
-    to-crews = rw (ab .m-is) (u .1);
+    to-crews = rw (m-is) (u .1);
   }
 
   working : (w : ℕ) → AtWork z view w → Working r w
@@ -120,34 +124,26 @@ module _ {V : Type 0} (d : V) (q : Register V) (view : RegisterView V) (xs : Lis
       let t = ab .tie .job-is w (s .from-one) (s .to-crews) in
       let h = tied-by-job (hasJob r w) (recordOf r w) (view .job w) (view .low w) (view .high w) t (k .a-job) in
       let o = of-open d r view (ab .tie) w s h in
-      record { has = h; room = omega (arith, o .2, o .3, k .room); under-top = omega (arith, o .3, k .below-top); counted = rw (ab .active-is) (busy-at (view .job) w (r .head .sizes .crews) (s .from-one) (s .to-crews) (k .a-job)) }
-
-  undamaged : (w : ℕ) → Working r w → damaged r w ≡ false
-  undamaged w k = or-from (ltb (highOf r w) (lowOf r w + 2)) (ltb top (highOf r w) || eqb (r .head .active) 0) (le-ltb (highOf r w) (lowOf r w + 2) (k .room))
-      (or-from (ltb top (highOf r w)) (eqb (r .head .active) 0) (le-ltb top (highOf r w) (k .under-top)) (ne-eqb (r .head .active) 0 (λ e. omega (arith, k .counted))))
+      record { has = h; room = omega (arith, o .2, o .3, k .room); under-top = omega (arith, o .3, k .below-top); counted = rw (ab .tie .active-is) (busy-at (view .job) w (r .head .sizes .crews) (s .from-one) (s .to-crews) (k .a-job)) }
 
   -- a call of an open job passes the tests
   passes-work : (k : Call V) → isOpening k ≡ false → wrongCell (r .head .sizes .cells) k ≡ false → AtWork z view (crewOf k) → outcome d (f []) r k ≡ accepted d (f []) r k
   passes-work k o c a =
       let s = sized (crewOf k) (a .a-crew) in
       let wk = working (crewOf k) a in
-      passes k (within (r .head .sizes .crews) (crewOf k) (s .from-one) (s .to-crews)) c (rw o refl) (rw (o, wk .has) refl) (rw (o, undamaged (crewOf k) wk) refl) (rw o refl) (rw o refl)
+      passes k (within (r .head .sizes .crews) (crewOf k) (s .from-one) (s .to-crews)) c (rw o refl) (rw (o, wk .has) refl) (rw (o, not-damaged r (crewOf k) wk) refl) (rw o refl) (rw o refl)
 
   tied : (left : Register V) (w : ℕ) (e : Operation V V ℕ) → Tie d left (viewAfter top (r .head .sizes .cells) view w e) → Tie d left (viewAfter top (z .cells) view w e)
-  tied left w e t = subst (λ (n : ℕ). Tie d left (viewAfter top n view w e)) (ab .n-is) t
+  tied left w e t = subst (λ (n : ℕ). Tie d left (viewAfter top n view w e)) (n-is) t
 
   ---- open
 
-  done-open : (w : ℕ) → UpTo (z .crews) w → view .job w ≡ 0 → Done (openOutcome r w) (viewAfter top (z .cells) view w opens) xs
+  done-open : (w : ℕ) → UpTo (z .crews) w → hasJob r w ≡ false → Done (openOutcome r w) (viewAfter top (z .cells) view w opens) xs
   done-open w u j bk b = (
     tt,
     record {
-      tie = tie-book d (openOutcome r w .left) bk _ (tied (openOutcome r w .left) w opens (tie-open d r view (ab .tie) w (sized w u)));
-      fits = record { values = ab .fits .values; written = ab .fits .written; read = ab .fits .read; jobs = length-set (r .tables .jobs) (w - 1) _ ∙ ab .fits .jobs; own = ab .fits .own; flags = ab .fits .flags; book = ap length b ∙ ab .fits .book };
-      n-is = ab .n-is;
-      m-is = ab .m-is;
-      b-is = ab .b-is;
-      active-is = omega (arith, busy-put (view .job) w (suc (view .opened)) (r .head .sizes .crews) (u .0) (rw (ab .m-is) (u .1)), one-no (view .job w) j, one-yes (suc (view .opened)) (omega arith), ab .active-is);
+      tie = tie-book d (openOutcome r w .left) bk _ (ap length b) (tied (openOutcome r w .left) w opens (tie-open d r view (ab .tie) w (sized w u) j));
+      same-sizes = ab .same-sizes;
       means = ab .means;
     },
   )
@@ -157,8 +153,8 @@ module _ {V : Type 0} (d : V) (q : Register V) (view : RegisterView V) (xs : Lis
       let s = sized (w .0) (sv .0) in
       let h = closed-job (hasJob r (w .0)) (recordOf r (w .0)) (view .job (w .0)) (view .low (w .0)) (view .high (w .0)) (ab .tie .job-is (w .0) (s .from-one) (s .to-crews)) (sv .1) in
       subst (λ (o : Outcome V). Done o (viewAfter top (z .cells) view (w .0) opens) xs)
-      (sym (passes (Open w) (within (r .head .sizes .crews) (w .0) (s .from-one) (s .to-crews)) refl h refl refl (le-ltb top (r .head .highest + 2) (omega (arith, ab .tie .highest-is, sv .2))) (ne-eqb (r .head .ended + r .head .active) (r .head .sizes .entries) (λ e. omega (arith, ab .tie .opened-is, ab .b-is, sv .3)))))
-      (done-open (w .0) (sv .0) (sv .1))
+      (sym (passes (Open w) (within (r .head .sizes .crews) (w .0) (s .from-one) (s .to-crews)) refl h refl refl (le-ltb top (r .head .highest + 2) (omega (arith, ab .tie .highest-is, sv .2))) (ne-eqb (r .head .ended + r .head .active) (r .head .sizes .entries) (λ e. omega (arith, ab .tie .opened-is, b-is, sv .3)))))
+      (done-open (w .0) (sv .0) h)
 
   ---- read
 
@@ -166,12 +162,8 @@ module _ {V : Type 0} (d : V) (q : Register V) (view : RegisterView V) (xs : Lis
   done-own w c v u a b e bk q = (
     tt,
     record {
-      tie = tie-book d r bk _ (tied r w (reads c v) (tie-own d r view (ab .tie) w (sized w u) c v a b e));
-      fits = record { values = ab .fits .values; written = ab .fits .written; read = ab .fits .read; jobs = ab .fits .jobs; own = ab .fits .own; flags = ab .fits .flags; book = ap length q ∙ ab .fits .book };
-      n-is = ab .n-is;
-      m-is = ab .m-is;
-      b-is = ab .b-is;
-      active-is = ab .active-is;
+      tie = tie-book d r bk _ (ap length q) (tied r w (reads c v) (tie-own d r view (ab .tie) w (sized w u) c v a b e));
+      same-sizes = ab .same-sizes;
       means = ab .means;
     },
   )
@@ -180,12 +172,8 @@ module _ {V : Type 0} (d : V) (q : Register V) (view : RegisterView V) (xs : Lis
   done-cell w c v u wk a b e bk q = (
     tt,
     record {
-      tie = tie-book d (readCell d r w c .left) bk _ (tied (readCell d r w c .left) w (reads c v) (tie-cell d r view (ab .tie) w (sized w u) c v wk a b e));
-      fits = record { values = ab .fits .values; written = ab .fits .written; read = ab .fits .read; jobs = length-set (r .tables .jobs) (w - 1) _ ∙ ab .fits .jobs; own = ab .fits .own; flags = length-set (r .tables .flags) _ _ ∙ ab .fits .flags; book = ap length q ∙ ab .fits .book };
-      n-is = ab .n-is;
-      m-is = ab .m-is;
-      b-is = ab .b-is;
-      active-is = ab .active-is;
+      tie = tie-book d (readCell d r w c .left) bk _ (ap length q) (tied (readCell d r w c .left) w (reads c v) (tie-cell d r view (ab .tie) w (sized w u) c v wk a b e));
+      same-sizes = ab .same-sizes;
       means = ab .means;
     },
   )
@@ -202,7 +190,7 @@ module _ {V : Type 0} (d : V) (q : Register V) (view : RegisterView V) (xs : Lis
       G = λ o. Done o (viewAfter top (z .cells) view (w .0) (reads (c .0) v)) xs
 
       in-n : c .0 ≤ r .head .sizes .cells
-      in-n = rw (ab .n-is) (sv .1 .1)
+      in-n = rw (n-is) (sv .1 .1)
 
       s : Sized r (w .0)
       s = sized (w .0) (sv .0 .a-crew)
@@ -219,26 +207,19 @@ module _ {V : Type 0} (d : V) (q : Register V) (view : RegisterView V) (xs : Lis
   done-write w c v u a b bk q = (
     tt,
     record {
-      tie = tie-book d (writeOutcome r w c v .left) bk _ (tied (writeOutcome r w c v .left) w (writes c v) (tie-write d r view (ab .tie) w (sized w u) c v a b));
-      fits = record { values = ab .fits .values; written = ab .fits .written; read = ab .fits .read; jobs = ab .fits .jobs; own = length-set (r .tables .own) _ _ ∙ ab .fits .own; flags = length-set (r .tables .flags) _ _ ∙ ab .fits .flags; book = ap length q ∙ ab .fits .book };
-      n-is = ab .n-is;
-      m-is = ab .m-is;
-      b-is = ab .b-is;
-      active-is = ab .active-is;
+      tie = tie-book d (writeOutcome r w c v .left) bk _ (ap length q) (tied (writeOutcome r w c v .left) w (writes c v) (tie-write d r view (ab .tie) w (sized w u) c v a b));
+      same-sizes = ab .same-sizes;
       means = ab .means;
     },
   )
 
   step-write : (w : CrewNumber) (c : CellNumber) (v : V) → AcceptsWith scriptChooser z xs view (w .0) (writes (c .0) v) → Done (outcome d (f []) r (Write w c v)) (viewAfter top (z .cells) view (w .0) (writes (c .0) v)) xs
   step-write w c v sv =
-      let in-n : c .0 ≤ r .head .sizes .cells = rw (ab .n-is) (sv .1 .1) in
+      let in-n : c .0 ≤ r .head .sizes .cells = rw (n-is) (sv .1 .1) in
       subst (λ (o : Outcome V). Done o (viewAfter top (z .cells) view (w .0) (writes (c .0) v)) xs) (sym (passes-work (Write w c v) refl (within (r .head .sizes .cells) (c .0) (sv .1 .0) in-n) (sv .0)))
       (done-write (w .0) (c .0) v (sv .0 .a-crew) (sv .1 .0) in-n)
 
   ---- endings
-
-  ended-active : (w : ℕ) → AtWork z view w → r .head .active - 1 ≡ busy (updated (view .job) w 0) (r .head .sizes .crews)
-  ended-active w k = let s = sized w (k .a-crew) in omega (arith, busy-put (view .job) w 0 (r .head .sizes .crews) (s .from-one) (s .to-crews), one-yes (view .job w) (k .a-job), one-no 0 refl, ab .active-is)
 
   moved-means : (lo hi : ℕ) → movedIf f (Some (lo, hi)) ≡ scriptMeaning (scriptChooser .next xs lo hi)
   moved-means lo hi = ap (λ (g : Meaning). movedIf g (Some (lo, hi))) (ab .means) ∙ ap scriptMeaning (next-same xs lo hi)
@@ -250,20 +231,8 @@ module _ {V : Type 0} (d : V) (q : Register V) (view : RegisterView V) (xs : Lis
   done-abandon w p k bk i = let s = sized w (k .a-crew) in (
     tt,
     record {
-      tie = tie-book d (abandonedAt r w (λ p. Ok (Ended p)) p .left) bk _ (tied (abandonedAt r w (λ p. Ok (Ended p)) p .left) w (abandons p) (tie-abandon d r view (ab .tie) w s p (λ p. Ok (Ended p)) (working w k)));
-      fits = record {
-        values = ab .fits .values;
-        written = ab .fits .written;
-        read = length-each _ 1 (r .tables .read) ∙ ab .fits .read;
-        jobs = length-set (r .tables .jobs) (w - 1) _ ∙ ab .fits .jobs;
-        own = ab .fits .own;
-        flags = length-cleared (r .tables .flags) (r .head .sizes .cells) (r .head .sizes .crews) w (ab .fits .flags) (s .from-one) (s .to-crews) ∙ ab .fits .flags;
-        book = i .same-length ∙ ab .fits .book;
-      };
-      n-is = ab .n-is;
-      m-is = ab .m-is;
-      b-is = ab .b-is;
-      active-is = ended-active w k;
+      tie = tie-book d (abandonedAt r w (λ p. Ok (Ended p)) p .left) bk _ (i .same-length) (tied (abandonedAt r w (λ p. Ok (Ended p)) p .left) w (abandons p) (tie-abandon d r view (ab .tie) w s p (λ p. Ok (Ended p)) (working w k)));
+      same-sizes = ab .same-sizes;
       means = moved-means (lowOf r w) (highOf r w);
     },
   )
@@ -284,20 +253,8 @@ module _ {V : Type 0} (d : V) (q : Register V) (view : RegisterView V) (xs : Lis
   done-commit w p k bk i = let s = sized w (k .a-crew) in (
     tt,
     record {
-      tie = tie-book d (committedAt d r w p .left) bk _ (tied (committedAt d r w p .left) w (commits p) (tie-commit d r view (ab .tie) w s p (working w k)));
-      fits = record {
-        values = length-each _ 1 (r .tables .values) ∙ ab .fits .values;
-        written = length-each _ 1 (r .tables .written) ∙ ab .fits .written;
-        read = length-each _ 1 (r .tables .read) ∙ ab .fits .read;
-        jobs = length-set _ (w - 1) _ ∙ (length-each _ 1 (r .tables .jobs) ∙ ab .fits .jobs);
-        own = ab .fits .own;
-        flags = length-cleared (r .tables .flags) (r .head .sizes .cells) (r .head .sizes .crews) w (ab .fits .flags) (s .from-one) (s .to-crews) ∙ ab .fits .flags;
-        book = i .same-length ∙ ab .fits .book;
-      };
-      n-is = ab .n-is;
-      m-is = ab .m-is;
-      b-is = ab .b-is;
-      active-is = ended-active w k;
+      tie = tie-book d (committedAt d r w p .left) bk _ (i .same-length) (tied (committedAt d r w p .left) w (commits p) (tie-commit d r view (ab .tie) w s p (working w k)));
+      same-sizes = ab .same-sizes;
       means = moved-means (commitLow r w) (highOf r w);
     },
   )
@@ -312,7 +269,7 @@ module _ {V : Type 0} (d : V) (q : Register V) (view : RegisterView V) (xs : Lis
       o = of-open d r view (ab .tie) (w .0) (sized (w .0) (sv .0 .a-crew)) (working (w .0) (sv .0) .has)
 
       fl : commitLowerBound (z .cells) (z .crews) view (w .0) ≡ commitLow r (w .0)
-      fl = sym (commit-low-floor d r view (ab .tie) (w .0) (sized (w .0) (sv .0 .a-crew)) (working (w .0) (sv .0)) ∙ ap₂ (λ (n m : ℕ). commitLowerBound n m view (w .0)) (ab .n-is) (ab .m-is))
+      fl = sym (commit-low-bound d r view (ab .tie) (w .0) (sized (w .0) (sv .0 .a-crew)) (working (w .0) (sv .0)) ∙ ap₂ (λ (n m : ℕ). commitLowerBound n m view (w .0)) (n-is) (m-is))
 
       room : ltb (highOf r (w .0)) (commitLow r (w .0) + 2) ≡ false
       room = le-ltb (highOf r (w .0)) (commitLow r (w .0) + 2) (omega (arith, fl, o .3, sv .1))
@@ -330,9 +287,9 @@ module _ {V : Type 0} (d : V) (q : Register V) (view : RegisterView V) (xs : Lis
   step (Abandon w) (abandon-abandon {p = p}) sv = step-abandon w p sv
 
   pub performed : (k : Call V) {e : Operation V V ℕ} (a : Result (Answer V) Refusal) (r′ : Register V) (f′ : Meaning) → SameCall e (operation k) → AcceptsWith scriptChooser z xs view (crewOf k) e → Performs d r f k a r′ f′ →
-      IsAccepted a × Abreast d z (viewAfter top (z .cells) view (crewOf k) e) (chooserAfter scriptChooser z xs view (crewOf k) e) r′ f′
+      IsAccepted a × Abreast d q (viewAfter top (z .cells) view (crewOf k) e) (chooserAfter scriptChooser z xs view (crewOf k) e) r′ f′
   performed k {e = e} a r′ f′ m sv p =
       let g = step k m sv (r′ .tables .book) (p .enters) in (
         subst (λ (x : Result (Answer V) Refusal). IsAccepted x) (sym (p .answers)) (g .0),
-        subst₂ (λ (x : Register V) (y : Meaning). Abreast d z (viewAfter top (z .cells) view (crewOf k) e) (chooserAfter scriptChooser z xs view (crewOf k) e) x y) (sym (p .leaves)) (sym (p .asks)) (g .1),
+        subst₂ (λ (x : Register V) (y : Meaning). Abreast d q (viewAfter top (z .cells) view (crewOf k) e) (chooserAfter scriptChooser z xs view (crewOf k) e) x y) (sym (p .leaves)) (sym (p .asks)) (g .1),
       )

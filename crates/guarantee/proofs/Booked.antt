@@ -1,14 +1,13 @@
 -- The day book against the history: it names just the ended jobs, in ascending places.
-use mathlib.Core.Path.{_≡_, refl, sym, ap, ap₂, subst, _∙_}
+use mathlib.Core.Path.{_≡_, refl, sym, ap, _∙_}
 use mathlib.Core.List.{List, [], _∷_, _++_}
 use mathlib.Core.Bool.{Bool, true, false, cond}
 use mathlib.Core.Logic.{_⊎_, inl, inr}
-use Prim.Native.Nat.{ℕ, zero, suc, _+_, _≤_, _<_}
+use Prim.Native.Nat.{ℕ, suc, _+_}
 use native.Mathlib.Omega.{arith}
 use lib.Dec.{eqb}
-use Rattle.std.specs.declared.option.Option.{Option}
 use Rattle.std.specs.declared.option.Option.the-variants.{Some, None}
-use Rattle.std.proofs.shelf.Tests.{eqb-true, eqb-false, eq-eqb, ne-eqb, both-ways}
+use Rattle.std.proofs.shelf.Tests.{eqb-true, eq-eqb, ne-eqb, both-ways}
 use Rattle.terms.specs.declared.records.Ending.the-variants.{Abandoned, Committed}
 use Rattle.terms.specs.declared.records.Entry.{Entry}
 use Rattle.history.specs.Events.{History, Operation, byJobs, crewOf, endsAt, isSome, openJob, openings}
@@ -60,8 +59,8 @@ module _ {V : Type 0} where
   acting-is run w (commits p) = refl
   acting-is run w (abandons p) = refl
 
-  story-is : (run : History V) (w : ℕ) (d : Operation V V ℕ) (y : ℕ) → projection (byJobs (by w d ∷ run)) y ≡ cond (eqb (acting run w d) y) (d ∷ projection (byJobs run) y) (projection (byJobs run) y)
-  story-is run w d y = ap (λ (h : History V). projection h y) (acting-is run w d)
+  projection-is : (run : History V) (w : ℕ) (d : Operation V V ℕ) (y : ℕ) → projection (byJobs (by w d ∷ run)) y ≡ cond (eqb (acting run w d) y) (d ∷ projection (byJobs run) y) (projection (byJobs run) y)
+  projection-is run w d y = ap (λ (h : History V). projection h y) (acting-is run w d)
 
   acting-none : (run : History V) (w : ℕ) (d : Operation V V ℕ) → WellMade (by w d ∷ run) → endPlace (projection (byJobs run) (acting run w d)) ≡ None
   acting-none run w opens wm = ap endPlace (unopened-projection (byJobs run) (well-formed run (wm .1)) (suc (openings run)) (omega (arith, openings-by-job run)))
@@ -74,20 +73,20 @@ module _ {V : Type 0} where
     not-acting : (y p : ℕ) → endPlace (projection (byJobs run) y) ≡ Some p → acting run w d ≡ y → ⊥
     not-acting y p e q = none-some p (sym (acting-none run w d wm) ∙ (ap (λ (x : ℕ). endPlace (projection (byJobs run) x)) q ∙ e))
 
-    story-still : (y p : ℕ) → endPlace (projection (byJobs run) y) ≡ Some p → projection (byJobs (by w d ∷ run)) y ≡ projection (byJobs run) y
-    story-still y p e = story-is run w d y ∙ rw (ne-eqb (acting run w d) y (not-acting y p e))
+    projection-still : (y p : ℕ) → endPlace (projection (byJobs run) y) ≡ Some p → projection (byJobs (by w d ∷ run)) y ≡ projection (byJobs run) y
+    projection-still y p e = projection-is run w d y ∙ rw (ne-eqb (acting run w d) y (not-acting y p e))
 
-  owner-still : (run : History V) (w : ℕ) (d : Operation V V ℕ) (y : ℕ) → (acting run w d ≡ y → ⊥) → crewOf (by w d ∷ run) y ≡ crewOf run y
-  owner-still run w opens y n = rw (ne-eqb (suc (openings run)) y n)
-  owner-still run w (reads c v) y n = refl
-  owner-still run w (writes c v) y n = refl
-  owner-still run w (commits p) y n = refl
-  owner-still run w (abandons p) y n = refl
+  crew-still : (run : History V) (w : ℕ) (d : Operation V V ℕ) (y : ℕ) → (acting run w d ≡ y → ⊥) → crewOf (by w d ∷ run) y ≡ crewOf run y
+  crew-still run w opens y n = rw (ne-eqb (suc (openings run)) y n)
+  crew-still run w (reads c v) y n = refl
+  crew-still run w (writes c v) y n = refl
+  crew-still run w (commits p) y n = refl
+  crew-still run w (abandons p) y n = refl
 
   names-still : (run : History V) (w : ℕ) (d : Operation V V ℕ) → WellMade (by w d ∷ run) → (e : Entry) → Names run e → Names (by w d ∷ run) e
   names-still run w d wm e n =
-      let s = story-still run w d wm (e .job .0) (e .place .0) (n .place-is) in
-      record { crew-is = owner-still run w d (e .job .0) (not-acting run w d wm (e .job .0) (e .place .0) (n .place-is)) ∙ n .crew-is; place-is = ap endPlace s ∙ n .place-is; ending-is = ap isCommitted s ∙ n .ending-is }
+      let s = projection-still run w d wm (e .job .0) (e .place .0) (n .place-is) in
+      record { crew-is = crew-still run w d (e .job .0) (not-acting run w d wm (e .job .0) (e .place .0) (n .place-is)) ∙ n .crew-is; place-is = ap endPlace s ∙ n .place-is; ending-is = ap isCommitted s ∙ n .ending-is }
 
   ---- an operation that ends no job
 
@@ -104,7 +103,7 @@ module _ {V : Type 0} where
     ascends = k .ascends;
     entries = all-map (Names run) (Names (by w d ∷ run)) es (names-still run w d wm) (k .entries);
     distinct = k .distinct;
-    all = λ x e. k .all x (sym (ap isSome (ap endPlace (story-is run w d x) ∙ ending-plain d q (projection (byJobs run) x) (eqb (acting run w d) x))) ∙ e);
+    all = λ x e. k .all x (sym (ap isSome (ap endPlace (projection-is run w d x) ∙ ending-plain d q (projection (byJobs run) x) (eqb (acting run w d) x))) ∙ e);
   }
 
   ---- an operation that ends its job
@@ -125,7 +124,7 @@ module _ {V : Type 0} where
     ascends = ascending-mid e front back (k .ascends) (pl (k .ascends) .0) (pl (k .ascends) .1);
     entries = all-mid (Names (by w d ∷ run)) e front back n (all-map (Names run) (Names (by w d ∷ run)) (front ++ back) (names-still run w d wm) (k .entries));
     distinct = rw (order-of-mid front back e) (distinct-mid (e .job .0) (orderOf back) (orderOf front) (rw (order-of-append front back) at (k .distinct)) fresh-one);
-    all = λ x q. rw (order-of-mid front back e) (found x (eqb (acting run w d) x) refl (sym (ap (λ s. isSome (endPlace s)) (story-is run w d x)) ∙ q));
+    all = λ x q. rw (order-of-mid front back e) (found x (eqb (acting run w d) x) refl (sym (ap (λ s. isSome (endPlace s)) (projection-is run w d x)) ∙ q));
   }
     where
       fresh-one : In (e .job .0) (orderOf back ++ orderOf front) → ⊥

@@ -11,6 +11,7 @@ use Rattle.history.specs.Views.{RegisterView, conflicts}
 use Rattle.rules.specs.JobCalls.{commitLow, otherReader}
 use Rattle.rules.specs.Registers.{Register, hasJob, hasWritten, lowOf, recordOf}
 use Rattle.rules.specs.Tables.{at, most}
+use Rattle.guarantee.proofs.Opacity.{b}
 use Rattle.guarantee.proofs.Passing.{Sized, Working}
 use Rattle.guarantee.proofs.Tied.{Tie, Tied, of-open, touched}
 
@@ -36,8 +37,8 @@ one-crew false j x l h true y e = rw e refl
 one-crew false j x l h false y e = refl
 
 module _ {V : Type 0} (d : V) (r : Register V) (s : RegisterView V) (tie : Tie d r s) (w : ℕ) (z : Sized r w) where
-  pub commit-low-floor : Working r w → commitLow r w ≡ commitLowerBound (r .head .sizes .cells) (r .head .sizes .crews) s w
-  commit-low-floor k = ap₂ max (sym (of-open d r s tie w z (k .has) .2)) (ap₂ max
+  pub commit-low-bound : Working r w → commitLow r w ≡ commitLowerBound (r .head .sizes .cells) (r .head .sizes .crews) s w
+  commit-low-bound k = ap₂ max (sym (of-open d r s tie w z (k .has) .2)) (ap₂ max
       (most-cells (λ c. cond (hasWritten r w c) (max (at (r .tables .written) c 0) (at (r .tables .read) c 0)) 0) s w (r .head .sizes .cells) cell)
       (most-crews (λ u. cond (otherReader r w u) (lowOf r u + 1) 0) (r .head .sizes .cells) s w (r .head .sizes .crews) crew))
     where

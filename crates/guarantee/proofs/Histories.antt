@@ -1,13 +1,10 @@
 -- What a history leaves out altered nothing, and what it has was done.
 use mathlib.Core.Path.{_≡_, refl, sym, subst}
-use mathlib.Core.Bool.{Bool, true, false, cond}
-use mathlib.Core.List.{[], _∷_}
 use Prim.Native.Nat.{ℕ, _+_}
 use lib.Dec.{ltb}
 use Rattle.std.proofs.shelf.Tests.{cond-both}
 use Rattle.std.specs.declared.option.Option.{Option}
-use Rattle.std.specs.declared.option.Option.the-variants.{Some, None}
-use Rattle.std.specs.declared.result.Result.the-variants.{Ok, Err}
+use Rattle.std.specs.declared.option.Option.the-variants.{None}
 use Rattle.terms.specs.declared.refusals.Refusal.{Refusal}
 use Rattle.history.specs.Events.{Operation}
 use Rattle.history.specs.Events.Operation.{abandons, commits, opens, reads, writes}

@@ -1,12 +1,11 @@
 -- What holds at every moment of a run: the register is tied to a view that runs by the accepted calls, and its day book names the ended jobs.
 use mathlib.Core.Path.{_≡_, refl, sym, ap, ap₂, subst, _∙_}
-use mathlib.Core.List.{List, [], _∷_, _++_}
-use mathlib.Core.Bool.{Bool, true, false, cond, not, _&&_, _||_}
-use mathlib.Core.Logic.{_⊎_, inl, inr}
-use Prim.Native.Nat.{ℕ, zero, suc, _+_, _-_, _*_, _^_, _≤_, _<_, min, max}
+use mathlib.Core.List.{List, [], _∷_}
+use mathlib.Core.Bool.{false}
+use Prim.Native.Nat.{ℕ, _+_, _-_, _*_, _≤_}
 use native.Mathlib.Omega.{arith}
-use lib.Dec.{eqb, ltb, leb}
-use lib.ListN.{length, getD, set, take, drop, replicate}
+use lib.Dec.{ltb}
+use lib.ListN.{length, getD, take}
 use Rattle.std.proofs.shelf.Lists.{getD-replicate}
 use Rattle.std.proofs.shelf.Tests.{both-ways, ltb-false, cond-both}
 use Rattle.std.specs.declared.option.Option.{Option}
@@ -40,6 +39,7 @@ use Rattle.rules.proofs.Changing.{inside, spot-in}
 use Rattle.guarantee.specs.Histories.{NumberedSo, operation, operationOf, operationRefused, withOperation}
 use Rattle.guarantee.specs.Opacity.{Names, cellValues, dayBook}
 use Rattle.guarantee.proofs.Booked.{Booked, acting, booked-ended, booked-plain, names-abandon, names-commit}
+use Rattle.guarantee.proofs.Counting.{none-busy}
 use Rattle.guarantee.proofs.Passing.{None-of, Sized, Working, cell-passes, free, outcome-by, sized, working}
 use Rattle.guarantee.proofs.Started.{Fresh, fresh}
 use Rattle.guarantee.proofs.Tied.{Tie, Tied, accepts-abandon, accepts-cell, accepts-commit, accepts-open, accepts-own, accepts-write, job-tied, tie-abandon, tie-cell, tie-commit, tie-open, tie-own, tie-write}
@@ -55,8 +55,22 @@ pub keeps-on : (f : Meaning) (q : Option (ℕ × ℕ)) → KeepsLaw f → KeepsL
 keeps-on f None k = k
 keeps-on f (Some q) k = record { between = λ ps. k .between (q ∷ ps); low-without-room = λ ps. k .low-without-room (q ∷ ps); unmoved-without-room = λ qs ps. k .unmoved-without-room (q ∷ qs) ps }
 
-pub tie-book : {V : Type 0} (d : V) (r : Register V) (es : List Entry) (s : RegisterView V) → Tie d r s → Tie d (withBook r es) s
-tie-book d r es s t = record { value-is = t .value-is; written-is = t .written-is; read-is = t .read-is; job-is = t .job-is; crews = t .crews; own-is = t .own-is; reads-are = t .reads-are; writes-are = t .writes-are; highest-is = t .highest-is; opened-is = t .opened-is }
+pub tie-book : {V : Type 0} (d : V) (r : Register V) (es : List Entry) (s : RegisterView V) → length es ≡ length (r .tables .book) → Tie d r s → Tie d (withBook r es) s
+tie-book d r es s e t = record {
+  value-is = t .value-is;
+  written-is = t .written-is;
+  read-is = t .read-is;
+  job-is = t .job-is;
+  crews = t .crews;
+  own-is = t .own-is;
+  reads-are = t .reads-are;
+  writes-are = t .writes-are;
+  highest-is = t .highest-is;
+  opened-is = t .opened-is;
+  active-is = t .active-is;
+  under-top = t .under-top;
+  fits = record { values = t .fits .values; written = t .fits .written; read = t .fits .read; jobs = t .fits .jobs; own = t .fits .own; flags = t .fits .flags; book = e ∙ t .fits .book };
+}
 
 ---- At the start
 
@@ -75,6 +89,9 @@ start-tie d s started = record {
   writes-are = λ u c a b a′ b′. ap writtenFlag (zero-flag u c a b a′ b′);
   highest-is = sym (j .highest-is);
   opened-is = omega (arith, j .ended-is, j .active-is);
+  active-is = j .active-is ∙ none-busy (s .head .sizes .crews);
+  under-top = λ u. omega arith;
+  fits = started .fits;
 }
   where
     j : Fresh s
@@ -102,23 +119,23 @@ module _ {V : Type 0} (d : V) (s : Register V) (run : History V) (r : Register V
   well-made w e ac = run-facts top (r .head .sizes .cells) (cellValues d s) (ownOf d s) (ViewRun.goes-on (inv .went) ac) .well-made
 
   -- an operation that ends no job
-  plain-step : (w : ℕ) (e : Operation V V ℕ) (left : Register V) (bk : List Entry) → Does w e → endsAt e ≡ None → left .head .sizes .cells ≡ r .head .sizes .cells → left .head .ended ≡ r .head .ended → bk ≡ r .tables .book →
+  plain-step : (w : ℕ) (e : Operation V V ℕ) (left : Register V) (bk : List Entry) → Does w e → endsAt e ≡ None → left .head .sizes .cells ≡ r .head .sizes .cells → left .head .ended ≡ r .head .ended → left .tables .book ≡ r .tables .book → bk ≡ r .tables .book →
       Tie d left (viewAfter top (r .head .sizes .cells) (inv .view) w e) → Inv d s (by w e ∷ run) (withBook left bk) f
-  plain-step w e left bk ac q en ee eb t = record {
+  plain-step w e left bk ac q en ee el eb t = record {
     view = viewAfter top (r .head .sizes .cells) (inv .view) w e;
     went = subst (λ (n : ℕ). ViewRun top n (cellValues d s) (ownOf d s) (by w e ∷ run) (viewAfter top (r .head .sizes .cells) (inv .view) w e)) (sym en) (ViewRun.goes-on (inv .went) ac);
-    tie = tie-book d left bk (viewAfter top (r .head .sizes .cells) (inv .view) w e) t;
+    tie = tie-book d left bk (viewAfter top (r .head .sizes .cells) (inv .view) w e) (ap length (eb ∙ sym el)) t;
     booked = subst (Booked (by w e ∷ run)) (sym (ap₂ take ee eb)) (booked-plain run w e (well-made w e ac) q (dayBook r) (inv .booked));
     keeps = inv .keeps;
   }
 
   -- an operation that ends its job
-  ended-step : (w : ℕ) (e : Operation V V ℕ) (left : Register V) (en : Entry) (q : ℕ × ℕ) (bk : List Entry) → Does w e → en .job .0 ≡ acting run w e → Names (by w e ∷ run) en → left .head .sizes .cells ≡ r .head .sizes .cells → left .head .ended ≡ r .head .ended + 1 →
+  ended-step : (w : ℕ) (e : Operation V V ℕ) (left : Register V) (en : Entry) (q : ℕ × ℕ) (bk : List Entry) → Does w e → en .job .0 ≡ acting run w e → Names (by w e ∷ run) en → left .head .sizes .cells ≡ r .head .sizes .cells → left .head .ended ≡ r .head .ended + 1 → left .tables .book ≡ r .tables .book →
       Inserted (r .head .ended) en (r .tables .book) bk → Tie d left (viewAfter top (r .head .sizes .cells) (inv .view) w e) → Inv d s (by w e ∷ run) (withBook left bk) (movedIf f (Some q))
-  ended-step w e left en q bk ac j n nn ee i t = record {
+  ended-step w e left en q bk ac j n nn ee el i t = record {
     view = viewAfter top (r .head .sizes .cells) (inv .view) w e;
     went = subst (λ (n : ℕ). ViewRun top n (cellValues d s) (ownOf d s) (by w e ∷ run) (viewAfter top (r .head .sizes .cells) (inv .view) w e)) (sym nn) (ViewRun.goes-on (inv .went) ac);
-    tie = tie-book d left bk (viewAfter top (r .head .sizes .cells) (inv .view) w e) t;
+    tie = tie-book d left bk (viewAfter top (r .head .sizes .cells) (inv .view) w e) (i .same-length ∙ ap length (sym el)) t;
     booked = subst (Booked (by w e ∷ run)) (sym (ap (λ (k : ℕ). take k bk) ee ∙ i .is)) (booked-ended run w e (well-made w e ac) (i .front) (i .back) en j n (subst (Booked run) (i .was) (inv .booked)) (i .in-place));
     keeps = keeps-on f (Some q) (inv .keeps);
   }
@@ -133,9 +150,9 @@ module _ {V : Type 0} (d : V) (s : Register V) (run : History V) (r : Register V
   number-is : (w : ℕ) → Sized r w → Working r w → jobNumber r w ≡ openJob run w
   number-is w z k = sym (job-tied d r (inv .view) (inv .tie) w z k) ∙ run-facts top (r .head .sizes .cells) (cellValues d s) (ownOf d s) (inv .went) .view-facts .job-is w
 
-  reached-given-up : (k : Call V) (say : Place → Result (Answer V) Refusal) → Sized r (crewOf k) → Working r (crewOf k) →
+  reached-abandon : (k : Call V) (say : Place → Result (Answer V) Refusal) → Sized r (crewOf k) → Working r (crewOf k) →
       ((p : ℕ) → operationOf k (say (record { 0 = p })) ≡ Some (Operation.abandons p)) → ((p j : ℕ) → NumberedSo (say (record { 0 = p })) j) → Reached k (abandonOutcome (f []) r (crewOf k) say)
-  reached-given-up k say z wk operation num bk i = (rw (operation p) (ended-step w (Operation.abandons p) (abandonedAt r w say p .left) (entryOf r w p Abandoned) (lowOf r w, highOf r w) bk ac (number-is w z wk) names refl refl i (tie-abandon d r (inv .view) (inv .tie) w z p say wk)), num p (openings run))
+  reached-abandon k say z wk operation num bk i = (rw (operation p) (ended-step w (Operation.abandons p) (abandonedAt r w say p .left) (entryOf r w p Abandoned) (lowOf r w, highOf r w) bk ac (number-is w z wk) names refl refl refl i (tie-abandon d r (inv .view) (inv .tie) w z p say wk)), num p (openings run))
     where
       w : ℕ
       w = crewOf k
@@ -150,7 +167,7 @@ module _ {V : Type 0} (d : V) (s : Register V) (run : History V) (r : Register V
       names = subst (λ (x : ℕ). Names (by w (Operation.abandons p) ∷ run) (record { job = record { 0 = x }; crew = record { 0 = w }; place = record { 0 = p }; ending = Abandoned })) (sym (number-is w z wk)) (names-abandon run w p (well-made w (Operation.abandons p) ac))
 
   reached-commit : (w : _) → Sized r (crewOf {V = V} (Commit w)) → Working r (crewOf {V = V} (Commit w)) → ltb (highOf r (w .0)) (commitLow r (w .0) + 2) ≡ false → Reached (Commit w) (committedAt d r (w .0) (f [] (commitLow r (w .0)) (highOf r (w .0))))
-  reached-commit u z wk l bk i = (ended-step w (Operation.commits p) (committedAt d r w p .left) (entryOf r w p Committed) (commitLow r w, highOf r w) bk ac (number-is w z wk) names refl refl i (tie-commit d r (inv .view) (inv .tie) w z p wk), tt)
+  reached-commit u z wk l bk i = (ended-step w (Operation.commits p) (committedAt d r w p .left) (entryOf r w p Committed) (commitLow r w, highOf r w) bk ac (number-is w z wk) names refl refl refl i (tie-commit d r (inv .view) (inv .tie) w z p wk), tt)
     where
       w : ℕ
       w = u .0
@@ -167,15 +184,15 @@ module _ {V : Type 0} (d : V) (s : Register V) (run : History V) (r : Register V
   reached : (k : Call V) → None-of (testsOf r k) → Reached k (accepted d (f []) r k)
   reached (Open w) ns =
       let z = sized r (Open w) ns in λ bk b. (
-        plain-step (w .0) Operation.opens (openOutcome r (w .0) .left) bk (accepts-open d r (inv .view) (inv .tie) (w .0) z (free r w ns .no-job) (free r w ns .places-left)) refl refl refl b (tie-open d r (inv .view) (inv .tie) (w .0) z),
+        plain-step (w .0) Operation.opens (openOutcome r (w .0) .left) bk (accepts-open d r (inv .view) (inv .tie) (w .0) z (free r w ns .no-job) (free r w ns .places-left)) refl refl refl refl b (tie-open d r (inv .view) (inv .tie) (w .0) z (free r w ns .no-job)),
         omega (arith, inv .tie .opened-is, run-facts top (r .head .sizes .cells) (cellValues d s) (ownOf d s) (inv .went) .view-facts .opened-is),
       )
   reached (Read w c) ns =
       cond-both (hasWritten r (w .0) (c .0)) _ _ (Reached (Read w c))
-      (λ e bk b. (plain-step (w .0) (Operation.reads (c .0) (ownOf d r (w .0) (c .0))) r bk (accepts-own d r (inv .view) (inv .tie) (w .0) z (c .0) wk (i .0) (i .1) e) refl refl refl b (tie-own d r (inv .view) (inv .tie) (w .0) z (c .0) (ownOf d r (w .0) (c .0)) (i .0) (i .1) e), tt))
+      (λ e bk b. (plain-step (w .0) (Operation.reads (c .0) (ownOf d r (w .0) (c .0))) r bk (accepts-own d r (inv .view) (inv .tie) (w .0) z (c .0) wk (i .0) (i .1) e) refl refl refl refl b (tie-own d r (inv .view) (inv .tie) (w .0) z (c .0) (ownOf d r (w .0) (c .0)) (i .0) (i .1) e), tt))
       (λ e. cond-both (ltb (highOf r (w .0)) (raisedLow r (w .0) (c .0) + 2)) _ _ (Reached (Read w c))
-      (λ l. reached-given-up (Read w c) (λ p. Err (Stale p)) z wk (λ p. refl) (λ p j. tt))
-      (λ l bk b. (plain-step (w .0) (Operation.reads (c .0) (at (r .tables .values) (c .0) d)) (readCell d r (w .0) (c .0) .left) bk (accepts-cell d r (inv .view) (inv .tie) (w .0) z (c .0) wk (i .0) (i .1) e l) refl refl refl b (tie-cell d r (inv .view) (inv .tie) (w .0) z (c .0) (at (r .tables .values) (c .0) d) wk (i .0) (i .1) e), tt)))
+      (λ l. reached-abandon (Read w c) (λ p. Err (Stale p)) z wk (λ p. refl) (λ p j. tt))
+      (λ l bk b. (plain-step (w .0) (Operation.reads (c .0) (at (r .tables .values) (c .0) d)) (readCell d r (w .0) (c .0) .left) bk (accepts-cell d r (inv .view) (inv .tie) (w .0) z (c .0) wk (i .0) (i .1) e l) refl refl refl refl b (tie-cell d r (inv .view) (inv .tie) (w .0) z (c .0) (at (r .tables .values) (c .0) d) wk (i .0) (i .1) e), tt)))
     where
       z : Sized r (w .0)
       z = sized r (Read w c) ns
@@ -189,15 +206,15 @@ module _ {V : Type 0} (d : V) (s : Register V) (run : History V) (r : Register V
       let z = sized r (Write w c v) ns in
       let i = inside (r .head .sizes .cells) (c .0) (cell-passes r (Write w c v) ns) in
       let wk = working r (Write w c v) refl ns in λ bk b.
-      (plain-step (w .0) (Operation.writes (c .0) v) (writeOutcome r (w .0) (c .0) v .left) bk (accepts-write d r (inv .view) (inv .tie) (w .0) z (c .0) v wk (i .0) (i .1)) refl refl refl b (tie-write d r (inv .view) (inv .tie) (w .0) z (c .0) v (i .0) (i .1)), tt)
+      (plain-step (w .0) (Operation.writes (c .0) v) (writeOutcome r (w .0) (c .0) v .left) bk (accepts-write d r (inv .view) (inv .tie) (w .0) z (c .0) v wk (i .0) (i .1)) refl refl refl refl b (tie-write d r (inv .view) (inv .tie) (w .0) z (c .0) v (i .0) (i .1)), tt)
   reached (Commit w) ns =
       let z = sized r (Commit w) ns in
       let wk = working r (Commit w) refl ns in
-      cond-both (ltb (highOf r (w .0)) (commitLow r (w .0) + 2)) _ _ (Reached (Commit w)) (λ l. reached-given-up (Commit w) (λ p. Err (NoPlace p)) z wk (λ p. refl) (λ p j. tt)) (λ l. reached-commit w z wk l)
+      cond-both (ltb (highOf r (w .0)) (commitLow r (w .0) + 2)) _ _ (Reached (Commit w)) (λ l. reached-abandon (Commit w) (λ p. Err (NoPlace p)) z wk (λ p. refl) (λ p j. tt)) (λ l. reached-commit w z wk l)
   reached (Abandon w) ns =
       let z = sized r (Abandon w) ns in
       let wk = working r (Abandon w) refl ns in
-      reached-given-up (Abandon w) (λ p. Ok (Answer.Ended p)) z wk (λ p. refl) (λ p j. tt)
+      reached-abandon (Abandon w) (λ p. Ok (Answer.Ended p)) z wk (λ p. refl) (λ p j. tt)
 
   reached-outcome : (k : Call V) → Reached k (outcome d (f []) r k)
   reached-outcome k = outcome-by (Reached k) d (f []) r k (reached-refused k) (reached k)

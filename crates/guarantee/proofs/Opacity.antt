@@ -1,21 +1,17 @@
 -- The day book's order explains what the ended jobs were told, and with the open jobs sorted in it explains what all were told.
-use mathlib.Core.Path.{_≡_, refl, sym, ap, ap₂, subst, _∙_}
+use mathlib.Core.Path.{_≡_, refl, sym, ap, _∙_}
 use mathlib.Core.List.{List, [], _∷_, _++_}
 use mathlib.Core.Bool.{Bool, true, false, cond}
 use mathlib.Core.Logic.{_⊎_, inl, inr}
-use Prim.Native.Nat.{ℕ, zero, suc, _+_, _^_, _≤_, _<_}
+use Prim.Native.Nat.{ℕ, zero, suc, _+_, _≤_, _<_}
 use native.Mathlib.Omega.{arith}
 use native.Mathlib.Decide.{decLe}
 use lib.Dec.{eqb, leb, lit≤}
-use lib.ListN.{take}
 use Rattle.std.specs.declared.option.Option.{Option}
-use Rattle.std.specs.declared.option.Option.the-variants.{Some, None}
-use Rattle.std.specs.declared.result.Result.{Result}
-use Rattle.std.specs.declared.result.Result.the-variants.{Ok, Err}
 use Rattle.std.proofs.shelf.Tests.{eqb-true, eqb-false, both-ways}
 use Rattle.terms.specs.declared.records.Entry.{Entry}
 use Rattle.choosers.specs.Meaning.{KeepsLaw, Meaning}
-use Rattle.history.specs.Bounds.{Bounds, Placed, boundsByJob, sortKey, sortKeyAt}
+use Rattle.history.specs.Bounds.{Bounds, Placed, Tracked, boundsByJob, sortKey, sortKeyAt}
 use Rattle.history.specs.Events.{Event, History, Operation, byJobs, isSome, openings}
 use Rattle.history.specs.Events.Event.{by}
 use Rattle.history.specs.Events.Operation.{abandons, commits, opens, reads, writes}
@@ -184,9 +180,9 @@ module _ {V : Type 0} where
       high (yes l) = l
       high (no n) = absurd (both-ways (hasEnded h x) (ap (λ s. isSome (endPlace s)) (unopened-projection h pr x (omega arith))) q)
 
-  proper-since : {h g : History V} → Extends h g → WellFormed h → WellFormed g
-  proper-since here pr = pr
-  proper-since (later {a = a} {h = h} s) pr = proper-since s (well-formed-tail a h pr)
+  well-formed-since : {h g : History V} → Extends h g → WellFormed h → WellFormed g
+  well-formed-since here pr = pr
+  well-formed-since (later {a = a} {h = h} s) pr = well-formed-since s (well-formed-tail a h pr)
 
   openings-on : (a : Event V V ℕ) (h : History V) → openings h ≤ openings (a ∷ h)
   openings-on (by w opens) h = omega arith
@@ -195,9 +191,9 @@ module _ {V : Type 0} where
   openings-on (by w (commits p)) h = omega arith
   openings-on (by w (abandons p)) h = omega arith
 
-  openings-since : {h g : History V} → Extends h g → openings g ≤ openings h
-  openings-since here = omega arith
-  openings-since {g = g} (later {a = a} {h = h} s) = let l = openings-since s in let m = openings-on a h in omega arith
+  openings-until : {h g : History V} → Extends h g → openings g ≤ openings h
+  openings-until here = omega arith
+  openings-until {g = g} (later {a = a} {h = h} s) = let l = openings-until s in let m = openings-on a h in omega arith
 
 ---- At every moment
 
@@ -211,11 +207,14 @@ module _ {V : Type 0} (d : V) (s : Register V) (run : History V) (r : Register V
   tr : ReadsCurrent (cellValues d s) (byJobs run)
   tr = run-facts top (r .head .sizes .cells) (cellValues d s) (ownOf d s) (inv .went) .reads-current
 
-  abbrev b : Bounds
+  abbrev pub b : Bounds
   b = boundsByJob top run (boundsOf (inv .view))
 
+  pub tracking : Tracked (byJobs run) b
+  tracking = tracked top (lit≤ tt) pr (bounds-run top (crew-run top (r .head .sizes .cells) (cellValues d s) (ownOf d s) (inv .went)) (lit≤ tt) wm)
+
   pl : Placed (byJobs run) (b .low) (b .high)
-  pl = tracked top (lit≤ tt) pr (bounds-run top (crew-run top (r .head .sizes .cells) (cellValues d s) (ownOf d s) (inv .went)) (lit≤ tt) wm) .placed
+  pl = tracking .placed
 
   abbrev k : ℕ → ℕ
   k = sortKey (byJobs run) (b .low)
@@ -296,10 +295,10 @@ module _ {V : Type 0} (d : V) (s : Register V) (run : History V) (r : Register V
 
   real-time : (x y : ℕ) (g : History V) → Occurs (byJobs run) y opens g → Ended g x → StandsBefore whole x y
   real-time x y g did en =
-      let pg = proper-since did pr in
+      let pg = well-formed-since did pr in
       let e = ended-place g x en in
       let n = ended-numbered g (pg .1) x (ap isSome (e .1)) in
-      let o = openings-since did in
+      let o = openings-until did in
       w-order .rules x y (w-all x (n .0) (omega (arith, n .1))) (w-all y (omega (arith, pg .0)) (omega (arith, pg .0))) (λ q. omega (arith, pg .0, n .1)) (Precedes.real-time did en)
 
 day-book-explains : {V : Type 0} (d : V) (s : Register V) (log : List (Step V)) (r : Register V) (f : Meaning) → Inv d s (historyOf log) r f → Numbered log → DayBookExplains d s log r
@@ -325,7 +324,7 @@ order-explains d s log r f inv = (
   },
 )
 
-invariant : {V : Type 0} (d : V) (s : Register V) (f₀ : Meaning) → JustStarted (s .head) (s .tables) → KeepsLaw f₀ →
+pub invariant : {V : Type 0} (d : V) (s : Register V) (f₀ : Meaning) → JustStarted (s .head) (s .tables) → KeepsLaw f₀ →
     {log : List (Step V)} {r : Register V} {f : Meaning} → Run d s f₀ log r f → Inv d s (historyOf log) r f × Numbered log
 invariant d s f₀ j k Run.starts = (at-start d s f₀ j k, tt)
 invariant d s f₀ j k (Run.then {log = log} {r = r} {f = f} {k = call} {a = a} {r′ = r′} {f′ = f′} rn p) =
@@ -337,10 +336,11 @@ invariant d s f₀ j k (Run.passed-over rn) = let ih = invariant d s f₀ j k rn
 pub every-run-is-opaque : (V : Type 0) → EveryRunIsOpaque V
 every-run-is-opaque V d s f₀ j k log r f rn = let g = invariant d s f₀ j k rn in (day-book-explains d s log r f (g .0) (g .1), order-explains d s log r f (g .0))
 
-older-run : {V : Type 0} (d : V) (s : Register V) (f₀ : Meaning) {log : List (Step V)} {r : Register V} {f : Meaning} {older : List (Step V)} → Run d s f₀ log r f → Extends log older → (q : Register V) × (g : Meaning) × Run d s f₀ older q g
-older-run d s f₀ {r = r} {f = f} rn here = (r, f, rn)
-older-run d s f₀ (Run.then rn p) (later t) = older-run d s f₀ rn t
-older-run d s f₀ (Run.passed-over rn) (later t) = older-run d s f₀ rn t
+-- a run stood somewhere after each older part of its calls
+run-split : {V : Type 0} (d : V) (s : Register V) (f₀ : Meaning) (newer older : List (Step V)) {r : Register V} {f : Meaning} → Run d s f₀ (newer ++ older) r f → (q : Register V) × (g : Meaning) × Run d s f₀ older q g × Run d q g newer r f
+run-split d s f₀ [] older {r = r} {f = f} rn = (r, f, rn, Run.starts)
+run-split d s f₀ (step ∷ newer) older (Run.then rn p) = let ih = run-split d s f₀ newer older rn in (ih .0, ih .1, ih .2, Run.then (ih .3) p)
+run-split d s f₀ (step ∷ newer) older (Run.passed-over rn) = let ih = run-split d s f₀ newer older rn in (ih .0, ih .1, ih .2, Run.passed-over (ih .3))
 
 pub every-moment-is-opaque : (V : Type 0) → EveryMomentIsOpaque V
-every-moment-is-opaque V d s f₀ j k log r f rn older t = let q = older-run d s f₀ rn t in (q .0, q .1, q .2, every-run-is-opaque V d s f₀ j k older (q .0) (q .1) (q .2))
+every-moment-is-opaque V d s f₀ j k newer older r f rn = let q = run-split d s f₀ newer older rn in (q .0, q .1, q .2, q .3, every-run-is-opaque V d s f₀ j k older (q .0) (q .1) (q .2))

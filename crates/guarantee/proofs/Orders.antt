@@ -1,10 +1,8 @@
 -- Rows of jobs and lists of entries with one more in the middle.
-use mathlib.Core.Path.{_≡_, refl, sym, ap, ap₂, subst, _∙_}
+use mathlib.Core.Path.{_≡_, sym, ap, _∙_}
 use mathlib.Core.List.{List, [], _∷_, _++_}
-use mathlib.Core.Bool.{Bool, true, false, cond}
 use mathlib.Core.Logic.{_⊎_, inl, inr}
-use Prim.Native.Nat.{ℕ, zero, suc, _+_, _≤_, _<_}
-use native.Mathlib.Omega.{arith}
+use Prim.Native.Nat.{ℕ, _+_}
 use Rattle.std.proofs.shelf.Lists.{append-nil, append-assoc}
 use Rattle.terms.specs.declared.records.Entry.{Entry}
 use Rattle.history.specs.Precedence.{Extends, In}

@@ -1,12 +1,11 @@
 -- What a call that passes the tests has seen to.
-use mathlib.Core.Path.{_≡_, refl, sym, ap}
-use mathlib.Core.Bool.{Bool, true, false, cond, not, _&&_, _||_}
-use mathlib.Core.List.{List, [], _∷_, _++_}
-use Prim.Native.Nat.{ℕ, _+_, _*_, _≤_, _<_}
+use mathlib.Core.Path.{_≡_, refl, ap}
+use mathlib.Core.Bool.{Bool, true, false, not, _||_}
+use mathlib.Core.List.{[], _∷_, _++_}
+use Prim.Native.Nat.{ℕ, _+_, _≤_}
 use native.Mathlib.Omega.{arith}
-use lib.Dec.{eqb, ltb, leb}
-use lib.ListN.{length}
-use Rattle.std.proofs.shelf.Tests.{eqb-true, eqb-false, ltb-false, or-parts, not-false, cond-both}
+use lib.Dec.{eqb, ltb}
+use Rattle.std.proofs.shelf.Tests.{or-from, le-ltb, ne-eqb, eqb-true, eqb-false, ltb-false, or-parts, not-false, cond-both}
 use Rattle.std.specs.declared.option.Option.{Option}
 use Rattle.std.specs.declared.option.Option.the-variants.{Some, None}
 use Rattle.terms.specs.declared.numbers.CrewNumber.{CrewNumber}
@@ -141,3 +140,7 @@ working r k e ns =
     let a : not (hasJob r (crewOf k)) ≡ false = rw e at (ts .0) in
     let b : damaged r (crewOf k) ≡ false = rw e at (ts .1 .0) in
     undamaged r (crewOf k) a b
+
+pub not-damaged : {V : Type 0} (r : Register V) (w : ℕ) → Working r w → damaged r w ≡ false
+not-damaged r w k = or-from (ltb (highOf r w) (lowOf r w + 2)) (ltb top (highOf r w) || eqb (r .head .active) 0) (le-ltb (highOf r w) (lowOf r w + 2) (k .room))
+    (or-from (ltb top (highOf r w)) (eqb (r .head .active) 0) (le-ltb top (highOf r w) (k .under-top)) (ne-eqb (r .head .active) 0 (λ e. omega (arith, k .counted))))

@@ -1,11 +1,9 @@
 -- The whole list, both ways.
-use mathlib.Core.Path.{_≡_, refl, sym, ap, subst, _∙_}
+use mathlib.Core.Path.{refl, sym, ap, subst}
 use mathlib.Core.List.{List, [], _∷_}
-use Prim.Native.Nat.{ℕ, zero, suc, _+_, _*_, _≤_}
+use Prim.Native.Nat.{ℕ, _+_, _≤_}
 use native.Mathlib.Omega.{arith}
 use lib.Dec.{ltb, lit≤}
-use lib.ListN.{length}
-use Rattle.std.proofs.shelf.Lists.{length-replicate}
 use Rattle.std.proofs.shelf.Tests.{cond-both}
 use Rattle.std.specs.declared.option.Option.{Option}
 use Rattle.std.specs.declared.option.Option.the-variants.{Some, None}
@@ -37,12 +35,11 @@ use Rattle.guarantee.specs.Opacity.{cellValues}
 use Rattle.guarantee.specs.Permissiveness.{AcceptedCallsHaveAnOrder, AllAccepted, EveryListCanBePerformed, EveryRunAccepts, HasSerializationOrder, IsAccepted, IsOrderOf, IsPermissive, RegisterIsPermissive, RunOf, SomeRunAccepts, WellMadeCalls, scriptBy}
 use Rattle.guarantee.specs.RuleFacts.{SoundHead}
 use Rattle.guarantee.proofs.Accepting.{Abreast, performed, sizes-of}
-use Rattle.guarantee.proofs.Counting.{busy}
 use Rattle.guarantee.proofs.Invariant.{keeps-on, start-tie}
 use Rattle.guarantee.proofs.Opacity.{every-run-is-opaque}
 use Rattle.guarantee.proofs.Passing.{outcome-by}
 use Rattle.guarantee.proofs.RuleFacts.{every-call-can-be-performed}
-use Rattle.guarantee.proofs.Started.{fresh}
+use Rattle.guarantee.proofs.Soundness.{first-sound}
 
 ---- From a run to an order: each call that was accepted is a operation of its kind
 
@@ -50,20 +47,20 @@ abbrev Kind : {V : Type 0} → Call V → Option (Operation V V ℕ) → Type 0
 Kind k None = ⊥
 Kind k (Some e) = SameCall e (operation k)
 
-abbrev Kind-if-ok : {V : Type 0} → Call V → Result (Answer V) Refusal → Type 0
-Kind-if-ok k a = IsAccepted a → Kind k (operationOf k a)
+abbrev Kind-if-accepted : {V : Type 0} → Call V → Result (Answer V) Refusal → Type 0
+Kind-if-accepted k a = IsAccepted a → Kind k (operationOf k a)
 
 module _ {V : Type 0} (d : V) where
-  accepted-kind : (f : Meaning) (r : Register V) (k : Call V) → Kind-if-ok k (accepted d (f []) r k .answer)
+  accepted-kind : (f : Meaning) (r : Register V) (k : Call V) → Kind-if-accepted k (accepted d (f []) r k .answer)
   accepted-kind f r (Open w) = λ i. open-open
-  accepted-kind f r (Read w c) = cond-both (hasWritten r (w .0) (c .0)) _ _ (λ (o : Outcome V). Kind-if-ok (Read w c) (o .answer)) (λ e i. read-read)
-      (λ e. cond-both (ltb (highOf r (w .0)) (raisedLow r (w .0) (c .0) + 2)) _ _ (λ (o : Outcome V). Kind-if-ok (Read w c) (o .answer)) (λ l i. absurd i) (λ l i. read-read))
+  accepted-kind f r (Read w c) = cond-both (hasWritten r (w .0) (c .0)) _ _ (λ (o : Outcome V). Kind-if-accepted (Read w c) (o .answer)) (λ e i. read-read)
+      (λ e. cond-both (ltb (highOf r (w .0)) (raisedLow r (w .0) (c .0) + 2)) _ _ (λ (o : Outcome V). Kind-if-accepted (Read w c) (o .answer)) (λ l i. absurd i) (λ l i. read-read))
   accepted-kind f r (Write w c v) = λ i. write-write
-  accepted-kind f r (Commit w) = cond-both (ltb (highOf r (w .0)) (commitLow r (w .0) + 2)) _ _ (λ (o : Outcome V). Kind-if-ok (Commit w) (o .answer)) (λ l i. absurd i) (λ l i. commit-commit)
+  accepted-kind f r (Commit w) = cond-both (ltb (highOf r (w .0)) (commitLow r (w .0) + 2)) _ _ (λ (o : Outcome V). Kind-if-accepted (Commit w) (o .answer)) (λ l i. absurd i) (λ l i. commit-commit)
   accepted-kind f r (Abandon w) = λ i. abandon-abandon
 
-  outcome-kind : (f : Meaning) (r : Register V) (k : Call V) → Kind-if-ok k (outcome d (f []) r k .answer)
-  outcome-kind f r k = outcome-by (λ (o : Outcome V). Kind-if-ok k (o .answer)) d (f []) r k (λ e q i. absurd i) (λ ns. accepted-kind f r k)
+  outcome-kind : (f : Meaning) (r : Register V) (k : Call V) → Kind-if-accepted k (outcome d (f []) r k .answer)
+  outcome-kind f r k = outcome-by (λ (o : Outcome V). Kind-if-accepted k (o .answer)) d (f []) r k (λ e q i. absurd i) (λ ns. accepted-kind f r k)
 
   joined : (k : Call V) (x : Option (Operation V V ℕ)) (run : History V) (ks : List (Call V)) → Kind k x → Alike run (eventsOf ks) → Alike (withOperation (crewOf k) x run) (eventsOf (k ∷ ks))
   joined k None run ks m a = absurd m
@@ -72,7 +69,7 @@ module _ {V : Type 0} (d : V) where
   run-alike : (s : Register V) (f₀ : Meaning) {log : List (Step V)} {r : Register V} {f : Meaning} → Run d s f₀ log r f → AllAccepted log → Alike (historyOf log) (eventsOf (madeBy log))
   run-alike s f₀ Run.starts ok = none
   run-alike s f₀ (Run.then {log = log} {r = r} {f = f} {k = k} {a = a} rn p) ok =
-      joined k (operationOf k a) (historyOf log) (madeBy log) (subst (Kind-if-ok k) (sym (p .answers)) (outcome-kind f r k) (ok .0)) (run-alike s f₀ rn (ok .1))
+      joined k (operationOf k a) (historyOf log) (madeBy log) (subst (Kind-if-accepted k) (sym (p .answers)) (outcome-kind f r k) (ok .0)) (run-alike s f₀ rn (ok .1))
   run-alike s f₀ (Run.passed-over rn) ok = absurd (ok .0)
 
 pub accepted-calls-have-order : (V : Type 0) → AcceptedCallsHaveAnOrder V
@@ -108,39 +105,21 @@ sound-run : {V : Type 0} (d : V) (s : Register V) (f₀ : Meaning) → SoundHead
 sound-run d s f₀ so ke [] = record { run = record { log = []; register = s; meaning = f₀; performed = Performed.starts; whole = refl }; sound = so; keeps = ke }
 sound-run d s f₀ so ke (k ∷ ks) = one-more d s f₀ k ks (sound-run d s f₀ so ke ks)
 
-first-sound : {V : Type 0} (s : Register V) → JustStarted (s .head) (s .tables) → SoundHead (s .head)
-first-sound s j =
-    let h = fresh s j in
-    let t : 1 ≤ top = lit≤ tt in
-    record { under-top = omega (arith, h .highest-is); in-book = omega (arith, h .ended-is, h .active-is) }
-
 pub every-list-can-be-performed : (V : Type 0) → EveryListCanBePerformed V
 every-list-can-be-performed V d s f j ke ks = sound-run d s f (first-sound s j) ke ks .run
 
 ---- From an order to every run
 
-none-busy : (m : ℕ) → 0 ≡ busy (λ w. 0) m
-none-busy zero = refl
-none-busy (suc m) = omega (arith, none-busy m)
-
 module _ {V : Type 0} (d : V) (s : Register V) (j : JustStarted (s .head) (s .tables)) where
-  at-first : (xs : List ℕ) → Abreast d (sizes-of s) (freshView (cellValues d s) (ownOf d s)) xs s (scriptMeaning xs)
-  at-first xs = record {
-    tie = start-tie d s j;
-    fits = j .fits;
-    n-is = refl;
-    m-is = refl;
-    b-is = refl;
-    active-is = fresh s j .active-is ∙ none-busy (s .head .sizes .crews);
-    means = refl;
-  }
+  at-first : (xs : List ℕ) → Abreast d s (freshView (cellValues d s) (ownOf d s)) xs s (scriptMeaning xs)
+  at-first xs = record { tie = start-tie d s j; same-sizes = refl; means = refl }
 
   abbrev Accepted-by : List ℕ → History V → RegisterView V → List ℕ → Type 0
   Accepted-by xs run view ys = RunWith scriptChooser (sizes-of s) (cellValues d s) (ownOf d s) xs run view ys
 
   -- along what the view accepts, every call of the register is accepted
   abreast : (xs : List ℕ) {log : List (Step V)} {r : Register V} {f : Meaning} → Performed d s (scriptMeaning xs) log r f →
-      {run : History V} {view : RegisterView V} {ys : List ℕ} → Alike run (eventsOf (madeBy log)) → Accepted-by xs run view ys → AllAccepted log × Abreast d (sizes-of s) view ys r f
+      {run : History V} {view : RegisterView V} {ys : List ℕ} → Alike run (eventsOf (madeBy log)) → Accepted-by xs run view ys → AllAccepted log × Abreast d s view ys r f
   abreast xs Performed.starts none RunWith.starts = (tt, at-first xs)
   abreast xs (Performed.then {r = r} {f = f} {k = k} {a = a} {r′ = r′} {f′ = f′} g p) (more m al) (RunWith.goes-on {s = view} {k = ys} sv now) =
       let ih = abreast xs g al sv in
@@ -156,18 +135,18 @@ module _ {V : Type 0} (d : V) (s : Register V) (j : JustStarted (s .head) (s .ta
   book-under-top : s .head .sizes .entries + 2 ≤ top
   book-under-top = let t : mostEntries + 2 ≤ top = lit≤ tt in omega (arith, j .sizes-in-range .entries-fit)
 
+  -- where every run accepts every call, one does
+  pub some-from-every : (ks : List (Call V)) (f : Meaning) → KeepsLaw f → EveryRunAccepts d s f ks → SomeRunAccepts d s f ks
+  some-from-every ks f ke every =
+      let g = every-list-can-be-performed V d s f j ke ks in
+      (g, every (g .log) (g .register) (g .meaning) (g .performed) (subst (λ (x : List (Call V)). Extends x (madeBy (g .log))) (g .whole) here))
+
   module _ (ks : List (Call V)) (well : WellMadeCalls (s .head .sizes) ks) where
     by-positions : (order : List ℕ) → IsOrderOf ks order → EveryRunAccepts d s (scriptMeaning (scriptBy order ks)) ks
     by-positions order l log r f g since =
         let a = positions-script (sizes-of s) (cellValues d s) (ownOf d s) (eventsOf ks) book-under-top well order l in
         let o = older (scriptBy order ks) since (subst (λ (x : Calls V). Alike (a .run) x) (a .same-calls) (calls-alike (a .run))) (a .run-with) in
         abreast (scriptBy order ks) g (o .3) (o .4) .0
-
-    -- where every run accepts every call, one does
-    some-from-every : (f : Meaning) → KeepsLaw f → EveryRunAccepts d s f ks → SomeRunAccepts d s f ks
-    some-from-every f ke every =
-        let g = every-list-can-be-performed V d s f j ke ks in
-        (g, every (g .log) (g .register) (g .meaning) (g .performed) (subst (λ (x : List (Call V)). Extends x (madeBy (g .log))) (g .whole) here))
 
     order-from-some : (f : Meaning) → KeepsLaw f → SomeRunAccepts d s f ks → HasSerializationOrder ks
     order-from-some f ke (g, ok) = subst HasSerializationOrder (g .whole) (accepted-calls-have-order V d s f j ke (g .log) (g .register) (g .meaning) (performed-run d s f (g .performed)) ok)
@@ -178,12 +157,12 @@ module _ {V : Type 0} (d : V) (s : Register V) (j : JustStarted (s .head) (s .ta
     is-permissive : IsPermissive d s ks
     is-permissive = record {
       some-run = (
-        (λ l. let m = every-from-order l in (m .0, some-from-every (scriptMeaning (m .0)) (script-lawful (m .0)) (m .1))),
+        (λ l. let m = every-from-order l in (m .0, some-from-every ks (scriptMeaning (m .0)) (script-lawful (m .0)) (m .1))),
         (λ c. order-from-some (scriptMeaning (c .0)) (script-lawful (c .0)) (c .1)),
       );
       every-run = (
         every-from-order,
-        (λ c. order-from-some (scriptMeaning (c .0)) (script-lawful (c .0)) (some-from-every (scriptMeaning (c .0)) (script-lawful (c .0)) (c .1))),
+        (λ c. order-from-some (scriptMeaning (c .0)) (script-lawful (c .0)) (some-from-every ks (scriptMeaning (c .0)) (script-lawful (c .0)) (c .1))),
       );
       by-position = by-positions;
       with-any-chooser = order-from-some;

@@ -1,16 +1,15 @@
 -- Facts about the rules over any tables.
-use mathlib.Core.Path.{_≡_, refl, sym, ap, ap₂, subst, _∙_}
+use mathlib.Core.Path.{_≡_, refl, sym, ap, ap₂, _∙_}
 use mathlib.Core.List.{List, [], _∷_, _++_}
 use mathlib.Core.Bool.{Bool, true, false, cond, not, _&&_, _||_}
 use mathlib.Core.Logic.{_⊎_, inl, inr}
-use Prim.Native.Nat.{ℕ, zero, suc, _+_, _-_, _*_, _^_, _≤_, _<_, min, max}
+use Prim.Native.Nat.{ℕ, zero, suc, _+_, _-_, _≤_, _<_, max}
 use native.Mathlib.Omega.{arith}
 use lib.Dec.{eqb, ltb, leb}
-use lib.ListN.{length, getD, take, drop}
-use Rattle.std.proofs.shelf.Lists.{getD-default, take-at, drop-at, length-append, length-take-le, length-drop, append-assoc}
-use Rattle.std.proofs.shelf.Tests.{eqb-true, eqb-false, ne-eqb, both-ways, ltb-false, leb-true, leb-false, cond-both, and-parts, and-from, or-left, or-right, or-cases, not-false, not-true}
-use Rattle.std.specs.declared.option.Option.{Option}
-use Rattle.std.specs.declared.option.Option.the-variants.{Some, None}
+use lib.ListN.{length, take, drop}
+use Rattle.std.proofs.shelf.Lists.{getD-default, take-at, drop-at, length-append, length-take-le, length-drop}
+use Rattle.std.proofs.shelf.Tests.{eqb-true, eqb-false, ne-eqb, both-ways, ltb-false, leb-true, leb-false, cond-both, and-parts, and-from, or-left, or-right, or-cases, not-true}
+use Rattle.std.specs.declared.option.Option.the-variants.{None}
 use Rattle.std.specs.declared.result.Result.{Result}
 use Rattle.std.specs.declared.result.Result.the-variants.{Ok, Err}
 use Rattle.terms.specs.declared.numbers.Place.{Place}
@@ -30,8 +29,9 @@ use Rattle.rules.specs.declared.calls.Answer.the-variants.{Ended, Told}
 use Rattle.rules.specs.declared.calls.Call.{Call}
 use Rattle.rules.specs.declared.calls.Call.the-variants.{Abandon, Commit, Open, Read, Write}
 use Rattle.rules.proofs.Changing.{inside, most-at, most-least, spot-in}
-use Rattle.guarantee.specs.RuleFacts.{Bounds, CommitBoundIsLargest, EveryCallCanBePerformed, NoOutcomeDependsOnDefault, ReadsWritten, SoundHead}
+use Rattle.guarantee.specs.RuleFacts.{AtLeastEach, CommitBoundIsLargest, EveryCallCanBePerformed, NoOutcomeDependsOnDefault, ReadsWritten, SoundHead}
 use Rattle.guarantee.proofs.Invariant.{performed}
+use Rattle.guarantee.proofs.Opacity.{b}
 use Rattle.guarantee.proofs.Passing.{None-of, Sized, Working, cell-passes, free, outcome-by, same-outcome, sized, working}
 
 each-same : {A : Type 0} (f g : ℕ → A → A) (k : ℕ) (xs : List A) → ((c : ℕ) (x : A) → k ≤ c → c < k + length xs → f c x ≡ g c x) → eachFrom k f xs ≡ eachFrom k g xs
@@ -226,7 +226,7 @@ module _ {V : Type 0} (r : Register V) (w : ℕ) where
       let l : crew u ≤ most crew (r .head .sizes .crews) = most-at crew (r .head .sizes .crews) u (h .a-crew .0) (h .a-crew .1) in
       let m : lowOf r u + 1 ≤ most crew (r .head .sizes .crews) = rw e at l in omega arith
 
-  bounded : (x : ℕ) → Bounds r w x → commitLow r w ≤ x
+  bounded : (x : ℕ) → AtLeastEach r w x → commitLow r w ≤ x
   bounded x k =
       let l = k .own-low in
       let p = most-least cell (r .head .sizes .cells) x (λ c a b. at-most (hasWritten r w c) (max (at (r .tables .written) c 0) (at (r .tables .read) c 0)) x (λ e. omega (arith, k .written-cells c a b e))) in
@@ -242,7 +242,7 @@ module _ {V : Type 0} (r : Register V) (w : ℕ) where
 
 pub commit-bound-is-largest : (V : Type 0) → CommitBoundIsLargest V
 commit-bound-is-largest V r w = record {
-  bounds = record { own-low = omega arith; written-cells = cell-up r w; other-readers = crew-up r w };
+  at-least-each = record { own-low = omega arith; written-cells = cell-up r w; other-readers = crew-up r w };
   none-lower = bounded r w;
   none-written = λ none.
       let l = bounded r w (lowOf r w) (record {

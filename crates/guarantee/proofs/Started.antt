@@ -1,6 +1,6 @@
 -- A register just started, table by table.
 use mathlib.Core.Path.{_≡_, ap}
-use Prim.Native.Nat.{ℕ, _*_}
+use Prim.Native.Nat.{_*_}
 use lib.ListN.{replicate}
 use Rattle.rules.specs.Heads.{StartedHead}
 use Rattle.rules.specs.Contents.{Contents, closedRecord}

@@ -1,30 +1,28 @@
 -- The tables of a register against the view of its history: each accepted call is a step of the view.
 use mathlib.Core.Path.{_≡_, refl, sym, ap, ap₂, subst, subst₂, fun-ext, _∙_}
-use mathlib.Core.List.{List, [], _∷_, _++_}
+use mathlib.Core.List.{List}
 use mathlib.Core.Bool.{Bool, true, false, cond, not, _&&_, _||_}
-use mathlib.Core.Logic.{_⊎_, inl, inr}
-use Prim.Native.Nat.{ℕ, zero, suc, _+_, _-_, _*_, _^_, _≤_, _<_, min, max}
+use Prim.Native.Nat.{ℕ, zero, suc, _+_, _-_, _*_, _≤_, _<_, min, max}
 use native.Mathlib.Omega.{arith}
-use lib.Dec.{eqb, ltb, leb}
-use lib.ListN.{length, getD, set, take, drop, replicate}
-use Rattle.std.proofs.shelf.Tests.{eqb-true, eqb-false, eq-eqb, ne-eqb, both-ways, ltb-true, ltb-false, or-parts, not-false, and-from}
-use Rattle.std.specs.declared.option.Option.{Option}
-use Rattle.std.specs.declared.option.Option.the-variants.{Some, None}
+use lib.Dec.{eqb, ltb}
+use lib.ListN.{length, getD, set}
+use Rattle.std.proofs.shelf.Lists.{length-set}
+use Rattle.std.proofs.shelf.Tests.{eqb-true, eqb-false, ne-eqb, both-ways, ltb-false, and-from}
 use Rattle.std.specs.declared.result.Result.{Result}
-use Rattle.std.specs.declared.result.Result.the-variants.{Ok, Err}
 use Rattle.terms.specs.declared.numbers.Place.{Place}
 use Rattle.terms.specs.declared.records.JobRecord.{JobRecord}
 use Rattle.terms.specs.declared.records.Standing.the-variants.{Open as IsOpen}
 use Rattle.terms.specs.declared.refusals.Refusal.{Refusal}
 use Rattle.history.specs.Events.{Operation}
 use Rattle.history.specs.Views.{Accepts, RegisterView, conflicts, updated, viewAfter}
-use Rattle.rules.specs.Contents.{closedRecord}
+use Rattle.rules.specs.Contents.{Fits, closedRecord}
 use Rattle.rules.specs.JobCalls.{abandonedAt, commitLow, committedAt, lowered, openOutcome, otherReader, raisedLow, raisedReads, readCell, touches, writeOutcome}
 use Rattle.rules.specs.Limits.{top}
 use Rattle.rules.specs.Registers.{Register, flagOf, hasJob, hasRead, hasWritten, highOf, isOpen, jobNumber, lowOf, ownOf, recordOf}
 use Rattle.rules.specs.Tables.{at, cleared, each, most, put, readFlag, some, spot, withRead, withWritten, writtenFlag}
 use Rattle.rules.specs.declared.calls.Answer.{Answer}
 use Rattle.rules.proofs.Changing.{at-each, at-put, first-read, first-written, getD-cleared, getD-spot, length-each, most-at, written-read, written-written}
+use Rattle.guarantee.proofs.Counting.{busy, busy-updated, length-cleared, one-no, one-yes}
 use Rattle.guarantee.proofs.Passing.{Sized, Working}
 
 ---- The tie
@@ -45,11 +43,14 @@ pub record Tie {V : Type 0} (d : V) (r : Register V) (s : RegisterView V) : Type
   pub writes-are : (u c : ℕ) → 1 ≤ u → u ≤ r .head .sizes .crews → 1 ≤ c → c ≤ r .head .sizes .cells → hasWritten r u c ≡ s .hasWritten u c
   pub highest-is : s .highest ≡ r .head .highest
   pub opened-is : s .opened ≡ r .head .ended + r .head .active
+  pub active-is : r .head .active ≡ busy (s .job) (r .head .sizes .crews)
+  pub under-top : (u : ℕ) → s .high u ≤ top
+  pub fits : Fits (r .head .sizes) (r .tables)
 
 -- one of the cells
-some-meets : {V : Type 0} (t : ℕ → Bool) (s : RegisterView V) (w u n : ℕ) → ((c : ℕ) → 1 ≤ c → c ≤ n → t c ≡ (s .hasRead u c && s .hasWritten w c)) → some t n ≡ conflicts s w u n
-some-meets t s w u zero h = refl
-some-meets t s w u (suc n) h = ap₂ _||_ (h (suc n) (omega arith) (omega arith)) (some-meets t s w u n (λ c a b. h c a (omega arith)))
+some-conflict : {V : Type 0} (t : ℕ → Bool) (s : RegisterView V) (w u n : ℕ) → ((c : ℕ) → 1 ≤ c → c ≤ n → t c ≡ (s .hasRead u c && s .hasWritten w c)) → some t n ≡ conflicts s w u n
+some-conflict t s w u zero h = refl
+some-conflict t s w u (suc n) h = ap₂ _||_ (h (suc n) (omega arith) (omega arith)) (some-conflict t s w u n (λ c a b. h c a (omega arith)))
 
 pub tied-open : (b : Bool) (j : JobRecord) (x l h : ℕ) → b ≡ true → Tied b j x l h → (x ≡ j .job .0) × (1 ≤ x) × (l ≡ j .low .0) × (h ≡ j .high .0)
 tied-open true j x l h e t = t
@@ -90,6 +91,17 @@ put-same f k v e j = go (eqb k j) refl
     go true q = e ∙ ap f (eqb-true k j q)
     go false q = refl
 
+updated-below : (f : ℕ → ℕ) (k v b : ℕ) → v ≤ b → ((u : ℕ) → f u ≤ b) → (u : ℕ) → updated f k v u ≤ b
+updated-below f k v b l h u = go (eqb k u)
+  where
+    go : (t : Bool) → cond t v (f u) ≤ b
+    go true = l
+    go false = h u
+
+lowered-below : (t : Bool) (h p b : ℕ) → h ≤ b → cond t (min h p) h ≤ b
+lowered-below true h p b l = omega arith
+lowered-below false h p b l = l
+
 cond-same : {A : Type 0} (b c : Bool) (x x′ y y′ : A) → b ≡ c → x ≡ x′ → y ≡ y′ → cond b x y ≡ cond c x′ y′
 cond-same b c x x′ y y′ p q e = rw (p, q, e)
 
@@ -117,11 +129,14 @@ module _ {V : Type 0} (d : V) (r : Register V) (s : RegisterView V) (tie : Tie d
 
   ---- open
 
-  pub accepts-open : hasJob r w ≡ false → ltb top (r .head .highest + 2) ≡ false → Accepts top (r .head .sizes .cells) s w Operation.opens
-  accepts-open e f = (tied-closed (hasJob r w) (recordOf r w) (s .job w) (s .low w) (s .high w) e (tie .job-is w (z .from-one) (z .to-crews)), omega (arith, tie .highest-is, ltb-false top (r .head .highest + 2) f))
+  no-job : hasJob r w ≡ false → s .job w ≡ 0
+  no-job e = tied-closed (hasJob r w) (recordOf r w) (s .job w) (s .low w) (s .high w) e (tie .job-is w (z .from-one) (z .to-crews))
 
-  pub tie-open : Tie d (openOutcome r w .left) (viewAfter top (r .head .sizes .cells) s w Operation.opens)
-  tie-open = record {
+  pub accepts-open : hasJob r w ≡ false → ltb top (r .head .highest + 2) ≡ false → Accepts top (r .head .sizes .cells) s w Operation.opens
+  accepts-open e f = (no-job e, omega (arith, tie .highest-is, ltb-false top (r .head .highest + 2) f))
+
+  pub tie-open : hasJob r w ≡ false → Tie d (openOutcome r w .left) (viewAfter top (r .head .sizes .cells) s w Operation.opens)
+  tie-open e = record {
     value-is = tie .value-is;
     written-is = tie .written-is;
     read-is = tie .read-is;
@@ -133,6 +148,9 @@ module _ {V : Type 0} (d : V) (r : Register V) (s : RegisterView V) (tie : Tie d
     writes-are = tie .writes-are;
     highest-is = tie .highest-is;
     opened-is = omega (arith, tie .opened-is);
+    active-is = omega (arith, busy-updated (s .job) w (suc (s .opened)) (r .head .sizes .crews) (z .from-one) (z .to-crews), one-no (s .job w) (no-job e), one-yes (suc (s .opened)) (omega arith), tie .active-is);
+    under-top = updated-below (s .high) w top top (omega arith) (tie .under-top);
+    fits = record { values = z .fits .values; written = z .fits .written; read = z .fits .read; jobs = length-set (r .tables .jobs) (w - 1) _ ∙ z .fits .jobs; own = z .fits .own; flags = z .fits .flags; book = z .fits .book };
   }
 
   ---- one spot of a table of crews and cells changed
@@ -167,6 +185,9 @@ module _ {V : Type 0} (d : V) (r : Register V) (s : RegisterView V) (tie : Tie d
     writes-are = tie .writes-are;
     highest-is = tie .highest-is;
     opened-is = tie .opened-is;
+    active-is = tie .active-is;
+    under-top = tie .under-top;
+    fits = z .fits;
   }
     where
       f : s .hasWritten w c ≡ true
@@ -196,6 +217,9 @@ module _ {V : Type 0} (d : V) (r : Register V) (s : RegisterView V) (tie : Tie d
         ∙ ap (λ (g : ℕ → Bool). g i) (put-same (s .hasWritten) w (updated (s .hasWritten w) c (s .hasWritten w c)) (fun-ext (put-same (s .hasWritten w) c (s .hasWritten w c) refl)) u);
     highest-is = tie .highest-is;
     opened-is = tie .opened-is;
+    active-is = tie .active-is;
+    under-top = tie .under-top;
+    fits = record { values = z .fits .values; written = z .fits .written; read = z .fits .read; jobs = length-set (r .tables .jobs) (w - 1) _ ∙ z .fits .jobs; own = z .fits .own; flags = length-set (r .tables .flags) _ _ ∙ z .fits .flags; book = z .fits .book };
   }
     where
       K : JobRecord
@@ -231,9 +255,15 @@ module _ {V : Type 0} (d : V) (r : Register V) (s : RegisterView V) (tie : Tie d
     writes-are = spot-put (r .tables .flags) 0 c (withWritten (flagOf r w c)) writtenFlag (s .hasWritten) true (z .fits .flags) a b (written-written (flagOf r w c)) (tie .writes-are);
     highest-is = tie .highest-is;
     opened-is = tie .opened-is;
+    active-is = tie .active-is;
+    under-top = tie .under-top;
+    fits = record { values = z .fits .values; written = z .fits .written; read = z .fits .read; jobs = z .fits .jobs; own = length-set (r .tables .own) _ _ ∙ z .fits .own; flags = length-set (r .tables .flags) _ _ ∙ z .fits .flags; book = z .fits .book };
   }
 
   ---- endings
+
+  ended-active : 1 ≤ s .job w → r .head .active - 1 ≡ busy (updated (s .job) w 0) (r .head .sizes .crews)
+  ended-active j = omega (arith, busy-updated (s .job) w 0 (r .head .sizes .crews) (z .from-one) (z .to-crews), one-yes (s .job w) j, one-no 0 refl, tie .active-is)
 
   row-put : (g : ℕ → Bool) (t : ℕ → ℕ → Bool) → g 0 ≡ false → ((u k : ℕ) → 1 ≤ u → u ≤ r .head .sizes .crews → 1 ≤ k → k ≤ r .head .sizes .cells → g (flagOf r u k) ≡ t u k) →
       (u k : ℕ) → 1 ≤ u → u ≤ r .head .sizes .crews → 1 ≤ k → k ≤ r .head .sizes .cells → g (getD (cleared (r .tables .flags) (r .head .sizes .cells) w) (spot (r .head .sizes .cells) u k) 0) ≡ updated t w (λ c. false) u k
@@ -262,10 +292,21 @@ module _ {V : Type 0} (d : V) (r : Register V) (s : RegisterView V) (tie : Tie d
     writes-are = row-put writtenFlag (s .hasWritten) refl (tie .writes-are);
     highest-is = omega (arith, tie .highest-is);
     opened-is = omega (arith, tie .opened-is, k .counted);
+    active-is = ended-active (of-open (k .has) .1);
+    under-top = updated-below (s .high) w 0 top (omega arith) (tie .under-top);
+    fits = record {
+      values = z .fits .values;
+      written = z .fits .written;
+      read = length-each _ 1 (r .tables .read) ∙ z .fits .read;
+      jobs = length-set (r .tables .jobs) (w - 1) _ ∙ z .fits .jobs;
+      own = z .fits .own;
+      flags = length-cleared (r .tables .flags) (r .head .sizes .cells) (r .head .sizes .crews) w (z .fits .flags) (z .from-one) (z .to-crews) ∙ z .fits .flags;
+      book = z .fits .book;
+    };
   }
 
   pub touched : (u : ℕ) → 1 ≤ u → u ≤ r .head .sizes .crews → touches r w u ≡ conflicts s w u (r .head .sizes .cells)
-  touched u a b = some-meets (λ c. hasRead r u c && hasWritten r w c) s w u (r .head .sizes .cells) (λ c x y. ap₂ _&&_ (tie .reads-are u c a b x y) (tie .writes-are w c (z .from-one) (z .to-crews) x y))
+  touched u a b = some-conflict (λ c. hasRead r u c && hasWritten r w c) s w u (r .head .sizes .cells) (λ c x y. ap₂ _&&_ (tie .reads-are u c a b x y) (tie .writes-are w c (z .from-one) (z .to-crews) x y))
 
   pub accepts-commit : (p : ℕ) → Working r w → commitLow r w < p → p < highOf r w → ((c : ℕ) → s .hasWritten w c ≡ true → (1 ≤ c) × (c ≤ r .head .sizes .cells)) → Accepts top (r .head .sizes .cells) s w (Operation.commits p)
   accepts-commit p k a b range = let o = of-open (k .has) in
@@ -310,6 +351,17 @@ module _ {V : Type 0} (d : V) (r : Register V) (s : RegisterView V) (tie : Tie d
     writes-are = row-put writtenFlag (s .hasWritten) refl (tie .writes-are);
     highest-is = omega (arith, tie .highest-is);
     opened-is = omega (arith, tie .opened-is, k .counted);
+    active-is = ended-active (of-open (k .has) .1);
+    under-top = updated-below H w 0 top (omega arith) (λ u. lowered-below (conflicts s w u (r .head .sizes .cells)) (s .high u) p top (tie .under-top u));
+    fits = record {
+      values = length-each _ 1 (r .tables .values) ∙ z .fits .values;
+      written = length-each _ 1 (r .tables .written) ∙ z .fits .written;
+      read = length-each _ 1 (r .tables .read) ∙ z .fits .read;
+      jobs = length-set _ (w - 1) _ ∙ (length-each _ 1 (r .tables .jobs) ∙ z .fits .jobs);
+      own = z .fits .own;
+      flags = length-cleared (r .tables .flags) (r .head .sizes .cells) (r .head .sizes .crews) w (z .fits .flags) (z .from-one) (z .to-crews) ∙ z .fits .flags;
+      book = z .fits .book;
+    };
   }
     where
       wr : (c : ℕ) → 1 ≤ c → c ≤ r .head .sizes .cells → hasWritten r w c ≡ s .hasWritten w c

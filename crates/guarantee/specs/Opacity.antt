@@ -100,8 +100,8 @@ abbrev pub EveryRunIsOpaque : Type 0 → Type 0
 EveryRunIsOpaque V = (d : V) (s : Register V) (f₀ : Meaning) → JustStarted (s .head) (s .tables) → KeepsLaw f₀ →
     (log : List (Step V)) (r : Register V) (f : Meaning) → Run d s f₀ log r f → Explained d s log r
 
--- and at each moment of it: over the register as it stood after the older part of the calls
+-- and at each moment of it: after the older part of the calls the run stood at a register q, from which the newer ones led on, and which is explained
 abbrev pub EveryMomentIsOpaque : Type 0 → Type 0
 EveryMomentIsOpaque V = (d : V) (s : Register V) (f₀ : Meaning) → JustStarted (s .head) (s .tables) → KeepsLaw f₀ →
-    (log : List (Step V)) (r : Register V) (f : Meaning) → Run d s f₀ log r f → (older : List (Step V)) → Extends log older →
-    (q : Register V) × (g : Meaning) × Run d s f₀ older q g × Explained d s older q
+    (newer older : List (Step V)) (r : Register V) (f : Meaning) → Run d s f₀ (newer ++ older) r f →
+    (q : Register V) × (g : Meaning) × Run d s f₀ older q g × Run d q g newer r f × Explained d s older q

@@ -44,15 +44,15 @@ pub record ReadsWritten {V : Type 0} (r : Register V) (w u c : ℕ) : Type 0 whe
   pub read : hasRead r u c ≡ true
 
 -- x is at least the job's low, the written and the read place of each cell that it has written, and low + 1 of each other open job that has read one of those first-hand
-pub record Bounds {V : Type 0} (r : Register V) (w x : ℕ) : Type 0 where
+pub record AtLeastEach {V : Type 0} (r : Register V) (w x : ℕ) : Type 0 where
   pub own-low : lowOf r w ≤ x
   pub written-cells : (c : ℕ) → 1 ≤ c → c ≤ r .head .sizes .cells → hasWritten r w c ≡ true → (at (r .tables .written) c 0 ≤ x) × (at (r .tables .read) c 0 ≤ x)
   pub other-readers : (u c : ℕ) → ReadsWritten r w u c → lowOf r u + 1 ≤ x
 
 -- the low bound of a commit is the least such number: the largest of all these; where nothing is written it is the job's low
 pub record LargestBound {V : Type 0} (r : Register V) (w : ℕ) : Type 0 where
-  pub bounds : Bounds r w (commitLow r w)
-  pub none-lower : (x : ℕ) → Bounds r w x → commitLow r w ≤ x
+  pub at-least-each : AtLeastEach r w (commitLow r w)
+  pub none-lower : (x : ℕ) → AtLeastEach r w x → commitLow r w ≤ x
   pub none-written : ((c : ℕ) → 1 ≤ c → c ≤ r .head .sizes .cells → hasWritten r w c ≡ false) → commitLow r w ≡ lowOf r w
 
 abbrev pub CommitBoundIsLargest : Type 0 → Type 0

@@ -2,7 +2,10 @@
 ghost use Rattle.guarantee.specs.RuleFacts.{NoOutcomeDependsOnDefault, EveryCallCanBePerformed, CommitBoundIsLargest};
 ghost use Rattle.guarantee.specs.Histories.{HistoriesAreTrue};
 ghost use Rattle.guarantee.specs.Opacity.{EveryRunIsOpaque, EveryMomentIsOpaque};
+ghost use Rattle.guarantee.specs.Soundness.{EveryRunIsSound};
+ghost use Rattle.guarantee.specs.Promise.{PromiseIsKept};
 ghost use Rattle.guarantee.specs.Permissiveness.{RegisterIsPermissive, AcceptedCallsHaveAnOrder, EveryListCanBePerformed};
+ghost use Rattle.guarantee.specs.Examples.{ExamplesStand};
 
 // What stands in the rules for a value that a table is too short for is never seen.
 pub fn no_outcome_depends_on_the_default<V>() -> u8
@@ -46,6 +49,13 @@ pub fn every_moment_is_opaque<V>() -> u8
     0
 }
 
+// No call ever damages a register that was just started: its tables fit, its head counts its jobs, and no call is answered that a record is damaged.
+pub fn every_run_is_sound<V>() -> u8
+    ensures { λ _. ⌜ EveryRunIsSound V ⌝ }
+{
+    0
+}
+
 // A well made list of calls has a serialization order of its jobs if and only if some script has the register accept every call of it.
 pub fn register_is_permissive<V>() -> u8
     ensures { λ _. ⌜ RegisterIsPermissive V ⌝ }
@@ -63,6 +73,20 @@ pub fn accepted_calls_have_an_order<V>() -> u8
 // Whatever the list of calls and the chooser, the whole list can be performed on a register just started.
 pub fn every_list_can_be_performed<V>() -> u8
     ensures { λ _. ⌜ EveryListCanBePerformed V ⌝ }
+{
+    0
+}
+
+// Of two small lists of calls on a register just started, one is never accepted whole, and the other is with a script.
+pub fn examples_stand() -> u8
+    ensures { λ _. ⌜ ExamplesStand ⌝ }
+{
+    0
+}
+
+// The whole promise at once, as the call that makes a list of calls carries it.
+pub fn promise_is_kept<V>() -> u8
+    ensures { λ _. ⌜ PromiseIsKept V ⌝ }
 {
     0
 }

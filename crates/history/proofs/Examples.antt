@@ -1,4 +1,4 @@
--- The three histories of specs/Examples.
+-- What specs/Examples says of its histories.
 use mathlib.Core.Path.{_≡_, refl, subst}
 use mathlib.Core.List.{List, [], _∷_}
 use mathlib.Core.Bool.{Bool, true, false, cond}
@@ -13,15 +13,15 @@ use Rattle.history.specs.Events.Event.{by}
 use Rattle.history.specs.Projections.{projection}
 use Rattle.history.specs.Precedence.{Extends, Wrote, Precedes, In, StandsBefore, SerializationOrder}
 use Rattle.history.specs.Precedence.Extends.{here, later}
-use Rattle.history.specs.Precedence.Precedes.{committed-read, read-committed}
+use Rattle.history.specs.Precedence.Precedes.{real-time, committed-read, read-committed}
 use Rattle.history.specs.SerialExecution.{executeJob, executeSerially, SeriallyExplained}
 use Rattle.history.specs.WellMade.{WellMade, Calls, callsOf}
-use Rattle.history.specs.Bounds.{boundsByJob}
-use Rattle.history.specs.Views.{boundsOf}
-use Rattle.history.specs.Acceptance.{scriptChooser, AcceptedWith}
+use Rattle.history.specs.Bounds.{Placed, sortKey, Ascending, Bounds, boundsByJob}
+use Rattle.history.specs.Views.{RegisterView, boundsOf}
+use Rattle.history.specs.Acceptance.{scriptChooser, RunWith, AcceptedWith}
 use Rattle.history.specs.Acceptance.RunWith.{starts, goes-on}
-use Rattle.history.specs.Examples.{firstValues, small, crossedReads, CrossedReadsHaveNoOrder, overtaking, OvertakingHasAnOrder, readSkew, ReadSkewIsNotExplained}
-use Rattle.history.proofs.Rows.{one-way, in-cases, in-nil}
+use Rattle.history.specs.Examples.{firstValues, small, crossedReads, CrossedReadsHaveNoOrder, overtaking, OvertakingHasAnOrder, readSkew, ReadSkewIsNotExplained, inTurn, atOnce, RealTimeIsKept}
+use Rattle.history.proofs.Rows.{one-way, in-later, in-cases, in-nil, in-head}
 use Rattle.history.proofs.Ordering.{ascending-is-order, orders-explain}
 use Rattle.history.proofs.Crews.{well-formed}
 use Rattle.history.proofs.Viewing.{views-agree}
@@ -74,6 +74,73 @@ crossed-reads = record {
       no-order (byJobs crossedReads) (lit≤ tt) crossed-12 crossed-21 (k .0) (k .1);
 }
 
+---- Rows of two jobs
+
+-- the second stands before the first, and no other pair stands so
+pair-row : (a b x y : ℕ) → StandsBefore (a ∷ b ∷ []) x y → (x ≡ b) × (y ≡ a)
+pair-row a b x y (earlier, here, i) = (only-one (in-cases x b [] i), refl)
+  where
+    only-one : (x ≡ b) ⊎ In x [] → x ≡ b
+    only-one (inl e) = e
+    only-one (inr k) = absurd (in-nil x k)
+pair-row a b x y (earlier, later here, i) = absurd (in-nil x i)
+pair-row a b x y (earlier, later (later s), i) = absurd (in-nil y (earlier, s))
+
+pair-in : (a b x : ℕ) → (x ≡ a) ⊎ (x ≡ b) → In x (a ∷ b ∷ [])
+pair-in a b x (inl e) = in-head x a (b ∷ []) e
+pair-in a b x (inr e) = in-later x a (b ∷ []) (in-head x b [] e)
+
+pair-cases : (a b x : ℕ) → In x (a ∷ b ∷ []) → (x ≡ a) ⊎ (x ≡ b)
+pair-cases a b x i = go (in-cases x a (b ∷ []) i)
+  where
+    second : (x ≡ b) ⊎ In x [] → (x ≡ a) ⊎ (x ≡ b)
+    second (inl e) = inr e
+    second (inr k) = absurd (in-nil x k)
+
+    go : (x ≡ a) ⊎ In x (b ∷ []) → (x ≡ a) ⊎ (x ≡ b)
+    go (inl e) = inl e
+    go (inr k) = second (in-cases x b [] k)
+
+one-or-two : (x : ℕ) → 1 ≤ x → x ≤ 2 → (x ≡ 1) ⊎ (x ≡ 2)
+one-or-two x l u = go (eqb x 1) refl
+  where
+    go : (k : Bool) → eqb x 1 ≡ k → (x ≡ 1) ⊎ (x ≡ 2)
+    go true e = inl (eqb-true x 1 e)
+    go false e = inr (omega (arith, eqb-false x 1 e))
+
+other-way : {A B : Type 0} → A ⊎ B → B ⊎ A
+other-way (inl a) = inr a
+other-way (inr b) = inl b
+
+up-to-two : (x : ℕ) → (x ≡ 1) ⊎ (x ≡ 2) → (1 ≤ x) × (x ≤ 2)
+up-to-two x (inl e) = (omega arith, omega arith)
+up-to-two x (inr e) = (omega arith, omega arith)
+
+module _ (run : History ℕ) (numbers : List ℕ) {s : RegisterView ℕ} {k : List ℕ} (r : RunWith scriptChooser small firstValues (λ w c. 0) numbers run s k) (two : openings (byJobs run) ≡ 2) where
+  -- the bounds by job after the run
+  abbrev bounds : Bounds
+  bounds = boundsByJob (2 ^ 62) run (boundsOf s)
+
+  placed : Placed (byJobs run) (bounds .low) (bounds .high)
+  placed = views-agree firstValues (λ w c. 0) (2 ^ 62) 2 run s (lit≤ tt) (run-with-view-run small firstValues (λ w c. 0) scriptChooser script-keeps-law r .0) .tracked .placed
+
+  ascending-pair : (a b : ℕ) → sortKey (byJobs run) (bounds .low) b ≤ sortKey (byJobs run) (bounds .low) a → Ascending (sortKey (byJobs run) (bounds .low)) (a ∷ b ∷ [])
+  ascending-pair a b l x y p = let k = pair-row a b x y p in rw (k .0, k .1) l
+
+  two-then-one : sortKey (byJobs run) (bounds .low) 2 ≤ sortKey (byJobs run) (bounds .low) 1 → SerializationOrder (byJobs run) (1 ∷ 2 ∷ [])
+  two-then-one l = ascending-is-order (byJobs run) (bounds .low) (bounds .high) placed (1 ∷ 2 ∷ [])
+      (λ x p. let k = pair-row 1 2 x x p in omega (arith, k .0, k .1))
+      (λ x u v. pair-in 1 2 x (one-or-two x u (omega arith)))
+      (λ x i. let k = up-to-two x (pair-cases 1 2 x i) in (k .0, omega arith))
+      (ascending-pair 1 2 l)
+
+  one-then-two : sortKey (byJobs run) (bounds .low) 1 ≤ sortKey (byJobs run) (bounds .low) 2 → SerializationOrder (byJobs run) (2 ∷ 1 ∷ [])
+  one-then-two l = ascending-is-order (byJobs run) (bounds .low) (bounds .high) placed (2 ∷ 1 ∷ [])
+      (λ x p. let k = pair-row 2 1 x x p in omega (arith, k .0, k .1))
+      (λ x u v. pair-in 2 1 x (other-way (one-or-two x u (omega arith))))
+      (λ x i. let k = up-to-two x (other-way (pair-cases 2 1 x i)) in (k .0, omega arith))
+      (ascending-pair 2 1 l)
+
 ---- Overtaking
 
 overtaking-accepted : AcceptedWith scriptChooser small firstValues (λ w c. 0) (6 ∷ 3 ∷ []) (callsOf overtaking)
@@ -94,43 +161,9 @@ overtaking-accepted = record {
       (record { a-crew = (lit≤ tt, lit≤ tt); a-job = lit≤ tt; room = lit≤ tt; below-top = lit≤ tt }, lit≤ tt, refl);
 }
 
--- in a row of two, the second stands before the first, and no other pair stands so
-pair-row : (x y : ℕ) → StandsBefore (1 ∷ 2 ∷ []) x y → (x ≡ 2) × (y ≡ 1)
-pair-row x y (earlier, here, i) = (only-one (in-cases x 2 [] i), refl)
-  where
-    only-one : (x ≡ 2) ⊎ In x [] → x ≡ 2
-    only-one (inl e) = e
-    only-one (inr k) = absurd (in-nil x k)
-pair-row x y (earlier, later here, i) = absurd (in-nil x i)
-pair-row x y (earlier, later (later s), i) = absurd (in-nil y (earlier, s))
-
-pair-in : (x : ℕ) → 1 ≤ x → x ≤ 2 → In x (1 ∷ 2 ∷ [])
-pair-in x a b = go (eqb 1 x) refl
-  where
-    go : (k : Bool) → eqb 1 x ≡ k → In x (1 ∷ 2 ∷ [])
-    go true e = subst (λ z. In z (1 ∷ 2 ∷ [])) (eqb-true 1 x e) (2 ∷ [], here)
-    go false e = subst (λ z. In z (1 ∷ 2 ∷ [])) (omega (arith, eqb-false 1 x e)) ([], later here)
-
-pair-only : (x : ℕ) → In x (1 ∷ 2 ∷ []) → (1 ≤ x) × (x ≤ 2)
-pair-only x i = go (in-cases x 1 (2 ∷ []) i)
-  where
-    second : (x ≡ 2) ⊎ In x [] → (1 ≤ x) × (x ≤ 2)
-    second (inl e) = (omega arith, omega arith)
-    second (inr k) = absurd (in-nil x k)
-
-    go : (x ≡ 1) ⊎ In x (2 ∷ []) → (1 ≤ x) × (x ≤ 2)
-    go (inl e) = (omega arith, omega arith)
-    go (inr k) = second (in-cases x 2 [] k)
-
 overtaking-order : SerializationOrder (byJobs overtaking) (1 ∷ 2 ∷ [])
 unfolding overtaking-accepted
-overtaking-order =
-    let g = run-with-view-run small firstValues (λ w c. 0) scriptChooser script-keeps-law (overtaking-accepted .run-with) .0 in
-    let agrees = views-agree firstValues (λ w c. 0) (2 ^ 62) 2 overtaking (overtaking-accepted .view) (lit≤ tt) g in
-    let b = boundsByJob (2 ^ 62) overtaking (boundsOf (overtaking-accepted .view)) in
-    ascending-is-order (byJobs overtaking) (b .low) (b .high) (agrees .tracked .placed) (1 ∷ 2 ∷ [])
-    (λ x p. let k = pair-row x x p in omega (arith, k .0, k .1)) pair-in pair-only
-    (λ x y p. let k = pair-row x y p in rw (k .0, k .1) (lit≤ {m = 3} {n = 6} tt))
+overtaking-order = two-then-one overtaking (6 ∷ 3 ∷ []) (overtaking-accepted .run-with) refl (lit≤ {m = 3} {n = 6} tt)
 
 overtaking-well-made : WellMade overtaking
 overtaking-well-made = (lit≤ tt, (lit≤ tt, (lit≤ tt, (lit≤ tt, (lit≤ tt, (lit≤ tt, (refl, (refl, tt))))))))
@@ -226,4 +259,48 @@ read-skew = record {
   no-script = λ numbers a.
       let k = chosen-has-order small firstValues (λ w c. 0) scriptChooser script-keeps-law numbers (callsOf readSkew) (lit≤ tt) a in
       no-order (byJobs readSkew) (lit≤ tt) skew-12 skew-21 (k .0) (answers-aside readSkew (k .0) .1 (k .1));
+}
+
+---- Real time
+
+in-turn-accepted : AcceptedWith scriptChooser small firstValues (λ w c. 0) (1 ∷ 2 ∷ []) (callsOf inTurn)
+in-turn-accepted = record {
+  run = inTurn;
+  view = _;
+  state = _;
+  same-calls = refl;
+  run-with =
+      goes-on (goes-on (goes-on (goes-on (goes-on (goes-on starts
+      ((lit≤ tt, lit≤ tt), refl, lit≤ tt, lit≤ tt))
+      (record { a-crew = (lit≤ tt, lit≤ tt); a-job = lit≤ tt; room = lit≤ tt; below-top = lit≤ tt }, (lit≤ tt, lit≤ tt)))
+      (record { a-crew = (lit≤ tt, lit≤ tt); a-job = lit≤ tt; room = lit≤ tt; below-top = lit≤ tt }, lit≤ tt, refl))
+      ((lit≤ tt, lit≤ tt), refl, lit≤ tt, lit≤ tt))
+      (record { a-crew = (lit≤ tt, lit≤ tt); a-job = lit≤ tt; room = lit≤ tt; below-top = lit≤ tt }, (lit≤ tt, lit≤ tt)))
+      (record { a-crew = (lit≤ tt, lit≤ tt); a-job = lit≤ tt; room = lit≤ tt; below-top = lit≤ tt }, lit≤ tt, refl);
+}
+
+at-once-accepted : AcceptedWith scriptChooser small firstValues (λ w c. 0) (1 ∷ 1 ∷ []) (callsOf atOnce)
+at-once-accepted = record {
+  run = atOnce;
+  view = _;
+  state = _;
+  same-calls = refl;
+  run-with =
+      goes-on (goes-on (goes-on (goes-on (goes-on (goes-on starts
+      ((lit≤ tt, lit≤ tt), refl, lit≤ tt, lit≤ tt))
+      ((lit≤ tt, lit≤ tt), refl, lit≤ tt, lit≤ tt))
+      (record { a-crew = (lit≤ tt, lit≤ tt); a-job = lit≤ tt; room = lit≤ tt; below-top = lit≤ tt }, (lit≤ tt, lit≤ tt)))
+      (record { a-crew = (lit≤ tt, lit≤ tt); a-job = lit≤ tt; room = lit≤ tt; below-top = lit≤ tt }, (lit≤ tt, lit≤ tt)))
+      (record { a-crew = (lit≤ tt, lit≤ tt); a-job = lit≤ tt; room = lit≤ tt; below-top = lit≤ tt }, lit≤ tt, refl))
+      (record { a-crew = (lit≤ tt, lit≤ tt); a-job = lit≤ tt; room = lit≤ tt; below-top = lit≤ tt }, lit≤ tt, refl);
+}
+
+pub real-time-kept : RealTimeIsKept
+unfolding in-turn-accepted at-once-accepted
+real-time-kept = record {
+  one-then-two = one-then-two inTurn (1 ∷ 2 ∷ []) (in-turn-accepted .run-with) refl (lit≤ {m = 1} {n = 2} tt);
+  never-two-then-one = λ row l. l .rules 1 2 (l .all 1 (lit≤ tt) (lit≤ tt)) (l .all 2 (lit≤ tt) (lit≤ tt)) (λ e. omega arith)
+      (real-time (later (later here)) (record { place = 1; before = _; occurs = inl here }));
+  at-once-one-then-two = one-then-two atOnce (1 ∷ 1 ∷ []) (at-once-accepted .run-with) refl (lit≤ {m = 1} {n = 1} tt);
+  at-once-two-then-one = two-then-one atOnce (1 ∷ 1 ∷ []) (at-once-accepted .run-with) refl (lit≤ {m = 1} {n = 1} tt);
 }

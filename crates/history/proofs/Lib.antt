@@ -7,6 +7,7 @@ pub mod Ordering
 pub mod JobBounds
 pub mod Tracking
 pub mod Crews
+pub mod Moving
 pub mod Opacity
 pub mod Viewing
 pub mod Alike

@@ -19,7 +19,8 @@ use Rattle.history.proofs.Ordering.{places-give-order}
 use Rattle.history.proofs.JobBounds.{BoundsRun}
 use Rattle.history.proofs.JobBounds.BoundsRun.{starts, goes-on}
 use Rattle.history.proofs.Tracking.{tracked-step}
-use Rattle.history.proofs.Crews.{well-made-tail, well-formed, moves-read, moves-write, moves-commit, moves-abandon, moves-open}
+use Rattle.history.proofs.Crews.{well-made-tail, well-formed}
+use Rattle.history.proofs.Moving.{moves-read, moves-write, moves-commit, moves-abandon, moves-open}
 
 extends-nothing : {A : Type 0} {a : A} {g : List A} → Extends [] (a ∷ g) → ⊥
 extends-nothing s = elim s [ ]

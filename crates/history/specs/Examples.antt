@@ -1,5 +1,5 @@
--- Three small histories that show that the definitions say something: one without a serialization order, one whose order is not that of its commits,
--- and one that no serial execution explains. As everywhere, the newest event stands first: read them from the right.
+-- Small histories that show that the definitions say something: one without a serialization order, one whose order is not that of its commits,
+-- one that no serial execution explains, and two that only real time tells apart. As everywhere, the newest event stands first: read them from the right.
 use mathlib.Core.Path.{_≡_}
 use mathlib.Core.List.{List, [], _∷_}
 use mathlib.Core.Bool.{true, cond}
@@ -9,7 +9,7 @@ use Rattle.history.specs.Events.{Events, History, isOpening, openJob, byJobs}
 use Rattle.history.specs.Events.Operation.{opens, reads, writes, commits}
 use Rattle.history.specs.Events.Event.{by}
 use Rattle.history.specs.Values.{ReadsCurrent}
-use Rattle.history.specs.Precedence.{Precedes, In, SerializationOrder}
+use Rattle.history.specs.Precedence.{Precedes, In, StandsBefore, SerializationOrder}
 use Rattle.history.specs.SerialExecution.{SeriallyExplained}
 use Rattle.history.specs.WellMade.{WellMade, Calls, callsOf, WellMadeList}
 use Rattle.history.specs.Acceptance.{scriptChooser, Sizes, AcceptedWith}
@@ -74,3 +74,18 @@ pub record ReadSkewIsNotExplained : Type 0 where
   pub not-explained : (row : List ℕ) → In 2 row → SeriallyExplained firstValues (byJobs readSkew) row → ⊥
   pub no-order : (row : List ℕ) → SerializationOrder (byJobs readSkew) row → ⊥
   pub no-script : (numbers : List ℕ) → AcceptedWith scriptChooser small firstValues (λ w c. 0) numbers (callsOf readSkew) → ⊥
+
+---- Real time: two jobs of different cells stand in the order of time if one ended before the other opened, and else in either order
+
+abbrev pub inTurn : History ℕ
+inTurn = by 2 (commits 2) ∷ by 2 (writes 2 25) ∷ by 2 opens ∷ by 1 (commits 1) ∷ by 1 (writes 1 15) ∷ by 1 opens ∷ []
+
+-- here both get one place
+abbrev pub atOnce : History ℕ
+atOnce = by 2 (commits 1) ∷ by 1 (commits 1) ∷ by 2 (writes 2 25) ∷ by 1 (writes 1 15) ∷ by 2 opens ∷ by 1 opens ∷ []
+
+pub record RealTimeIsKept : Type 0 where
+  pub one-then-two : SerializationOrder (byJobs inTurn) (2 ∷ 1 ∷ [])
+  pub never-two-then-one : (row : List ℕ) → SerializationOrder (byJobs inTurn) row → StandsBefore row 1 2
+  pub at-once-one-then-two : SerializationOrder (byJobs atOnce) (2 ∷ 1 ∷ [])
+  pub at-once-two-then-one : SerializationOrder (byJobs atOnce) (1 ∷ 2 ∷ [])

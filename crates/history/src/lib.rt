@@ -3,7 +3,7 @@ ghost use Rattle.history.specs.Theorems.{WellMadeRunsAreWellFormed, Respectful
 ghost use Rattle.history.specs.Theorems.{MovedBoundsAgree, BoundsAreOpaque, ViewsAgree, ViewsAreOpaque};
 ghost use Rattle.history.specs.Theorems.{AnswersDoNotMatter, ViewsArePermissive, PositionsAreAccepted, ScriptsKeepTheLaw, ScriptsArePermissive, PositionsMakeAScript};
 ghost use Rattle.history.specs.Theorems.{ChosenRunsAreViewRuns, ChosenPlacesGiveAnOrder};
-ghost use Rattle.history.specs.Examples.{CrossedReadsHaveNoOrder, OvertakingHasAnOrder, ReadSkewIsNotExplained};
+ghost use Rattle.history.specs.Examples.{CrossedReadsHaveNoOrder, OvertakingHasAnOrder, ReadSkewIsNotExplained, RealTimeIsKept};
 
 // What serial execution explains
 
@@ -115,7 +115,7 @@ pub fn chosen_places_give_an_order<V, C>() -> u8
     0
 }
 
-// Three examples
+// Examples
 
 pub fn crossed_reads_have_no_order() -> u8
     ensures { λ _. ⌜ CrossedReadsHaveNoOrder ⌝ }
@@ -131,6 +131,12 @@ pub fn overtaking_has_an_order() -> u8
 
 pub fn read_skew_is_not_explained() -> u8
     ensures { λ _. ⌜ ReadSkewIsNotExplained ⌝ }
+{
+    0
+}
+
+pub fn real_time_is_kept() -> u8
+    ensures { λ _. ⌜ RealTimeIsKept ⌝ }
 {
     0
 }

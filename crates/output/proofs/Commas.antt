@@ -28,7 +28,7 @@ writes-none u xs h = writes-true u xs [] u xs (omega arith) (omega arith) (sym (
 
 -- one number more
 pub writes-field : (u : ℕ) (xs ns : List ℕ) (i v : ℕ) (ys : List ℕ) (ok : Bool) (w : ℕ) (zs : List ℕ) → i < length ns
-  → Writes u xs (afterCommas (take i ns)) true v ys → Writes v ys (44 ∷ decimal (getD ns i 0)) ok w zs → Writes u xs (afterCommas (take (i + 1) ns)) ok w zs
+    → Writes u xs (afterCommas (take i ns)) true v ys → Writes v ys (44 ∷ decimal (getD ns i 0)) ok w zs → Writes u xs (afterCommas (take (i + 1) ns)) ok w zs
 writes-field u xs ns i v ys ok w zs h d e =
     writes-as u xs _ _ ok w zs (sym (commas-more ns i h)) (writes-then u xs (afterCommas (take i ns)) v ys (44 ∷ decimal (getD ns i 0)) ok w zs d e)
 
@@ -36,7 +36,7 @@ writes-field u xs ns i v ys ok w zs h d e =
 pub writes-short : (u : ℕ) (xs ns : List ℕ) (i v : ℕ) (ys : List ℕ) → Writes u xs (afterCommas (take i ns)) false v ys → Writes u xs (afterCommas ns) false v ys
 writes-short u xs ns i v ys d =
     writes-as u xs _ _ false v ys (sym (commas-append (take i ns) (drop i ns)) ∙ ap afterCommas (take-append-drop i ns))
-      (writes-stop u xs (afterCommas (take i ns)) v ys (afterCommas (drop i ns)) d)
+    (writes-stop u xs (afterCommas (take i ns)) v ys (afterCommas (drop i ns)) d)
 
 pub writes-all : (u : ℕ) (xs ns : List ℕ) (i v : ℕ) (ys : List ℕ) → length ns ≤ i → Writes u xs (afterCommas (take i ns)) true v ys → Writes u xs (afterCommas ns) true v ys
 writes-all u xs ns i v ys h d = writes-as u xs _ _ true v ys (ap afterCommas (take-all i ns h)) d

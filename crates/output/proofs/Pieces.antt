@@ -1,3 +1,4 @@
+-- Pieces of a line, one after another.
 use mathlib.Core.Path.{_≡_, refl, sym, ap, subst, _∙_}
 use mathlib.Core.Bool.{Bool, true, false, cond}
 use mathlib.Core.List.{List, [], _∷_, _++_}
@@ -20,21 +21,15 @@ take-laid xs at ps h = take-at (take at xs) (ps ++ drop (at + length ps) xs) at 
 
 pub writes-true : (u : ℕ) (xs ps : List ℕ) (v : ℕ) (ys : List ℕ) → u + length ps + 64 ≤ length xs → v ≡ u + length ps → ys ≡ laid xs u ps → Writes u xs ps true v ys
 writes-true u xs ps v ys h e d = record {
-    fits = sym (le-leb (u + length ps + 64) (length xs) h);
-    used = λ _. e;
-    text = λ _. d;
-    below = ap (take u) d ∙ take-laid xs u ps (omega arith) }
-
-pub writes-false : (u : ℕ) (xs ps : List ℕ) (v : ℕ) → length xs < u + length ps + 64 → Writes u xs ps false v xs
-writes-false u xs ps v h = record {
-    fits = sym (lt-leb (u + length ps + 64) (length xs) h);
-    used = λ t. absurd (let z : _≡_ {A = ℕ} 0 1 = cc in omega arith);
-    text = λ t. absurd (let z : _≡_ {A = ℕ} 0 1 = cc in omega arith);
-    below = refl }
+  fits = sym (le-leb (u + length ps + 64) (length xs) h);
+  used = λ _. e;
+  text = λ _. d;
+  below = ap (take u) d ∙ take-laid xs u ps (omega arith);
+}
 
 -- a part after a part that stands
 pub writes-then : (u : ℕ) (xs ps : List ℕ) (v : ℕ) (ys qs : List ℕ) (ok : Bool) (w : ℕ) (zs : List ℕ)
-  → Writes u xs ps true v ys → Writes v ys qs ok w zs → Writes u xs (ps ++ qs) ok w zs
+    → Writes u xs ps true v ys → Writes v ys qs ok w zs → Writes u xs (ps ++ qs) ok w zs
 writes-then u xs ps v ys qs ok w zs d e =
     let room = leb-true (u + length ps + 64) (length xs) (sym (d .fits)) in
     let la = length-append ps qs in
@@ -45,7 +40,8 @@ writes-then u xs ps v ys qs ok w zs d e =
       fits = e .fits ∙ ap (λ (n : ℕ). leb n (length ys)) s ∙ ap (leb (u + length (ps ++ qs) + 64)) lx;
       used = λ t. let f = e .used t in omega (arith, f, la, at);
       text = λ t. then-laid xs ys zs u v ps qs (d .text refl) at (omega (arith, room)) (e .text t);
-      below = sym (take-take u v zs (omega (arith, at))) ∙ ap (take u) (e .below) ∙ take-take u v ys (omega (arith, at)) ∙ d .below }
+      below = sym (take-take u v zs (omega (arith, at))) ∙ ap (take u) (e .below) ∙ take-take u v ys (omega (arith, at)) ∙ d .below;
+    }
 
 -- where a part does not fit, the line does not
 pub writes-stop : (u : ℕ) (xs ps : List ℕ) (v : ℕ) (ys qs : List ℕ) → Writes u xs ps false v ys → Writes u xs (ps ++ qs) false v ys
@@ -56,15 +52,17 @@ writes-stop u xs ps v ys qs d =
       fits = sym (lt-leb (u + length (ps ++ qs) + 64) (length xs) (omega (arith, lack, la)));
       used = λ t. absurd (let z : _≡_ {A = ℕ} 0 1 = cc in omega arith);
       text = λ t. absurd (let z : _≡_ {A = ℕ} 0 1 = cc in omega arith);
-      below = d .below }
+      below = d .below;
+    }
 
 -- the count does not matter where the line is taken back
 pub writes-end : (u : ℕ) (xs ps : List ℕ) (v : ℕ) (ys : List ℕ) (ok : Bool) (w : ℕ) → Writes u xs ps false v ys → ok ≡ false → Writes u xs ps ok w ys
 writes-end u xs ps v ys ok w d e = record {
-    fits = e ∙ d .fits;
-    used = λ t. absurd (both-ways ok e t);
-    text = λ t. absurd (both-ways ok e t);
-    below = d .below }
+  fits = e ∙ d .fits;
+  used = λ t. absurd (both-ways ok e t);
+  text = λ t. absurd (both-ways ok e t);
+  below = d .below;
+}
 
 pub err-not-ok : {T E : Type 0} (r : Result T E) → isErr r ≡ true → isOk r ≡ false
 err-not-ok (Ok x) h = sym h

@@ -1,3 +1,4 @@
+-- Bytes written over others, and the digits of a number.
 use mathlib.Core.Path.{_≡_, refl, sym, ap, _∙_}
 use mathlib.Core.List.{List, [], _∷_, _++_}
 use Prim.Native.Nat.{ℕ, suc, _+_, _-_, _*_, _^_, _/_, _%_, _<_, _≤_}
@@ -36,17 +37,15 @@ length-laid xs at ps h =
 pub laid-more : (xs : List ℕ) (at : ℕ) (ps qs : List ℕ) → at + length ps ≤ length xs → laid (laid xs at ps) (at + length ps) qs ≡ laid xs at (ps ++ qs)
 unfolding laid
 laid-more xs at ps qs h =
-    let front : List ℕ = take at xs ++ ps in
-    let k : ℕ = at + length ps in
     let l : length (take at xs ++ ps) ≡ at + length ps = length-append (take at xs) ps ∙ ap (λ (n : ℕ). n + length ps) (length-take-le at xs (omega arith)) in
     let s : take at xs ++ (ps ++ drop (at + length ps) xs) ≡ (take at xs ++ ps) ++ drop (at + length ps) xs = sym (append-assoc (take at xs) ps (drop (at + length ps) xs)) in
     let t : take (at + length ps) (take at xs ++ (ps ++ drop (at + length ps) xs)) ≡ take at xs ++ ps
-          = ap (take (at + length ps)) s ∙ take-at (take at xs ++ ps) (drop (at + length ps) xs) (at + length ps) l in
+    = ap (take (at + length ps)) s ∙ take-at (take at xs ++ ps) (drop (at + length ps) xs) (at + length ps) l in
     let d : drop (at + length ps + length qs) (take at xs ++ (ps ++ drop (at + length ps) xs)) ≡ drop (at + length (ps ++ qs)) xs
-          = sym (drop-drop (length qs) (at + length ps) (take at xs ++ (ps ++ drop (at + length ps) xs)))
-            ∙ ap (λ (ys : List ℕ). drop (length qs) ys) (ap (drop (at + length ps)) s ∙ drop-at (take at xs ++ ps) (drop (at + length ps) xs) (at + length ps) l)
-            ∙ drop-drop (length qs) (at + length ps) xs
-            ∙ ap (λ (n : ℕ). drop n xs) (omega (arith, length-append ps qs)) in
+    = sym (drop-drop (length qs) (at + length ps) (take at xs ++ (ps ++ drop (at + length ps) xs)))
+    ∙ ap (λ (ys : List ℕ). drop (length qs) ys) (ap (drop (at + length ps)) s ∙ drop-at (take at xs ++ ps) (drop (at + length ps) xs) (at + length ps) l)
+    ∙ drop-drop (length qs) (at + length ps) xs
+    ∙ ap (λ (n : ℕ). drop n xs) (omega (arith, length-append ps qs)) in
     ap (λ (ys : List ℕ). ys ++ (qs ++ drop (at + length ps + length qs) (take at xs ++ (ps ++ drop (at + length ps) xs)))) t
     ∙ ap (λ (ys : List ℕ). (take at xs ++ ps) ++ (qs ++ ys)) d
     ∙ append-assoc (take at xs) ps (qs ++ drop (at + length (ps ++ qs)) xs)

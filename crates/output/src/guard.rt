@@ -32,7 +32,11 @@ impl Drop for Line<'_> {
         if !self.done {
             self.count.used = self.start;
         }
-        let Line { count: _, start: _, done: _ } = self;
+        let Line {
+            count: _,
+            start: _,
+            done: _,
+        } = self;
     }
 }
 

@@ -49,12 +49,22 @@ fn put_tail(line: &mut Line<'_>, out: &mut [u8], tail: Option<u8>) -> Result<(),
 }
 
 // Writes a line under its guard: if it does not fit, the count is as it was.
-fn put_line(count: &mut Count, out: &mut [u8], lead: Lead, numbers: &[u64], tail: Option<u8>) -> Result<(), Full>
+fn put_line(
+    count: &mut Count,
+    out: &mut [u8],
+    lead: Lead,
+    numbers: &[u64],
+    tail: Option<u8>,
+) -> Result<(), Full>
     ensures writes { λ r. ⌜ Writes (now (count .entry) .used) (now (out .entry)) (lineOf lead (now (numbers .entry)) tail) (isOk r) (now (count .exit) .used) (now (out .exit)) ⌝ }
     ensures back { λ r. ⌜ (isOk r ≡ false → now (count .exit) .used ≡ now (count .entry) .used) ⌝ }
 {
     let start = count.used;
-    let mut line = Line { count, start, done: false };
+    let mut line = Line {
+        count,
+        start,
+        done: false,
+    };
     put_lead(&mut line, out, lead)?;
     put_fields(&mut line, out, numbers)?;
     put_tail(&mut line, out, tail)?;
@@ -64,7 +74,13 @@ fn put_line(count: &mut Count, out: &mut [u8], lead: Lead, numbers: &[u64], tail
 }
 
 // Writes a line after the used bytes, if 64 bytes of the paper remain after it. A line that is broken off is taken back.
-pub fn write_line(count: &mut Count, out: &mut [u8], lead: Lead, numbers: &[u64], tail: Option<u8>) -> Result<(), Refusal>
+pub fn write_line(
+    count: &mut Count,
+    out: &mut [u8],
+    lead: Lead,
+    numbers: &[u64],
+    tail: Option<u8>,
+) -> Result<(), Refusal>
     ensures { λ r. ⌜ Written (lineOf lead (now (numbers .entry)) tail) (now (count .entry)) (now (out .entry)) r (now (count .exit)) (now (out .exit)) ⌝ }
 {
     match put_line(count, out, lead, numbers, tail) {

@@ -28,18 +28,18 @@ sizes-pass sizes t tests h =
     simp (values, written, read, jobs, own, flags, book)
 
 pub fill-accepts : {V : Type 0} (head : FillingHead) (t : Contents V) (value : V) → Fits (head .sizes) t → head .filled < head .sizes .cells
-  → fillOutcome head t value ≡ record { answer = Ok tt; head = oneMoreFilled head; contents = withValue (head .filled) value t }
+    → fillOutcome head t value ≡ record { answer = Ok tt; head = oneMoreFilled head; contents = withValue (head .filled) value t }
 fill-accepts {V} head t value h lt =
     let some : eqb (head .filled) (head .sizes .cells) ≡ false = ne-eqb _ _ (λ e. omega arith) in
     ap (λ (o : Option Refusal). ifRefused {A = FillOutcome V} o
-        (λ e. record { answer = Err e; head = head; contents = t })
-        (record { answer = Ok tt; head = oneMoreFilled head; contents = withValue (head .filled) value t }))
-      (sizes-pass (head .sizes) t ((eqb (head .filled) (head .sizes .cells), NoCell) ∷ []) h ∙ ap (λ (b : Bool). firstRefusal ((b, NoCell) ∷ [])) some)
+    (λ e. record { answer = Err e; head = head; contents = t })
+    (record { answer = Ok tt; head = oneMoreFilled head; contents = withValue (head .filled) value t }))
+    (sizes-pass (head .sizes) t ((eqb (head .filled) (head .sizes .cells), NoCell) ∷ []) h ∙ ap (λ (b : Bool). firstRefusal ((b, NoCell) ∷ [])) some)
 
 pub start-accepts : {V : Type 0} (head : FillingHead) (t : Contents V) → Fits (head .sizes) t → head .filled ≡ head .sizes .cells
-  → startOutcome head t ≡ record { answer = Ok (freshHead (head .sizes)); contents = freshContents (head .sizes) t }
+    → startOutcome head t ≡ record { answer = Ok (freshHead (head .sizes)); contents = freshContents (head .sizes) t }
 start-accepts {V} head t h all =
     ap (λ (o : Option Refusal). ifRefused {A = StartOutcome V} o
-        (λ e. record { answer = Err (head, e); contents = t })
-        (record { answer = Ok (freshHead (head .sizes)); contents = freshContents (head .sizes) t }))
-      (sizes-pass (head .sizes) t ((not (eqb (head .filled) (head .sizes .cells)), NotFilled) ∷ []) h ∙ ap (λ (b : Bool). firstRefusal ((not b, NotFilled) ∷ [])) (eq-eqb _ _ all))
+    (λ e. record { answer = Err (head, e); contents = t })
+    (record { answer = Ok (freshHead (head .sizes)); contents = freshContents (head .sizes) t }))
+    (sizes-pass (head .sizes) t ((not (eqb (head .filled) (head .sizes .cells)), NotFilled) ∷ []) h ∙ ap (λ (b : Bool). firstRefusal ((not b, NotFilled) ∷ [])) (eq-eqb _ _ all))

@@ -1,19 +1,18 @@
 -- What the tables hold after a change.
-use mathlib.Core.Path.{_≡_, refl, sym, ap, ap₂, subst, _∙_}
+use mathlib.Core.Path.{_≡_, refl, sym, ap, _∙_}
 use mathlib.Core.List.{List, [], _∷_, _++_}
-use mathlib.Core.Bool.{Bool, true, false, cond, not, _&&_, _||_}
-use mathlib.Core.Logic.{_⊎_, inl, inr, _≢_}
-use Prim.Native.Nat.{ℕ, zero, suc, _+_, _-_, _*_, _/_, _%_, _≤_, _<_, min, max}
+use mathlib.Core.Bool.{Bool, true, false, cond}
+use mathlib.Core.Logic.{_⊎_, inl, inr}
+use Prim.Native.Nat.{ℕ, zero, suc, _+_, _-_, _*_, _/_, _%_, _≤_, _<_, max}
 use native.Mathlib.Omega.{arith}
 use native.Mathlib.Nat.{mul-comm}
 use native.Mathlib.Numerals.{one-add}
 use lib.Dec.{eqb, ltb, leb}
 use lib.ListN.{length, getD, set, take, drop, replicate}
-use Rattle.std.proofs.shelf.Lists.{length-set, length-take, length-drop, length-append, length-replicate, getD-set-same, getD-set-other, getD-take, getD-drop, getD-append-left, getD-append-right, getD-replicate, length-take-le, ext-getD}
-use Rattle.std.proofs.shelf.Tests.{eqb-true, eqb-false, eq-eqb, ne-eqb, both-ways, leb-true, leb-false, ltb-true, ltb-false, or-parts, cases-lt, cases-order, le-leb, lt-leb}
+use Rattle.std.proofs.shelf.Lists.{length-set, length-replicate, getD-set-same, getD-set-other, getD-take, getD-drop, getD-append-left, getD-append-right, getD-replicate, length-take-le, ext-getD}
+use Rattle.std.proofs.shelf.Tests.{eqb-true, eqb-false, eq-eqb, ne-eqb, leb-true, leb-false, ltb-false, or-parts, cases-lt, cases-order, le-leb, lt-leb}
 use Rattle.std.proofs.shelf.Bits.{mul-add-lt, div-mul-add, mod-mul-add}
-use Rattle.std.proofs.shelf.Ways.{tells}
-use Rattle.rules.specs.Tables.{at, put, eachFrom, each, row, spot, cleared, most, some, outside, readFlag, writtenFlag, withRead, withWritten}
+use Rattle.rules.specs.Tables.{at, put, eachFrom, each, row, spot, cleared, most, outside, readFlag, writtenFlag, withRead, withWritten}
 
 module _ {A : Type 0} where
   getD-each : (f : ℕ → A → A) (k : ℕ) (xs : List A) (i : ℕ) (d : A) → i < length xs → getD (eachFrom k f xs) i d ≡ f (k + i) (getD xs i d)

@@ -8,5 +8,11 @@ same-none V a = record { values = refl; written = refl; read = refl; jobs = refl
 
 pub same-then : (V : Type 0) (a b c : Tables V) → Same V b a → Same V c b → Same V c a
 same-then V a b c s r = record {
-    values = r .values ∙ s .values; written = r .written ∙ s .written; read = r .read ∙ s .read; jobs = r .jobs ∙ s .jobs;
-    own = r .own ∙ s .own; flags = r .flags ∙ s .flags; book = r .book ∙ s .book }
+  values = r .values ∙ s .values;
+  written = r .written ∙ s .written;
+  read = r .read ∙ s .read;
+  jobs = r .jobs ∙ s .jobs;
+  own = r .own ∙ s .own;
+  flags = r .flags ∙ s .flags;
+  book = r .book ∙ s .book;
+}

@@ -8,13 +8,19 @@ use lib.ListN.{getD}
 use Rattle.terms.specs.declared.records.Standing.{Standing}
 use Rattle.terms.specs.declared.records.Standing.the-variants.{Closed, Open}
 use Rattle.terms.specs.declared.records.JobRecord.{JobRecord}
-use Rattle.rules.specs.Heads.{StartedHead}
-use Rattle.rules.specs.Contents.{Contents, closedRecord}
+use Rattle.rules.specs.declared.head.Started.{Started}
+use Rattle.rules.specs.declared.tables.Tables.{Tables}
+use Rattle.rules.specs.Heads.{StartedHead, startedOf}
+use Rattle.rules.specs.Contents.{Contents, contentsOf, closedRecord}
 use Rattle.rules.specs.Tables.{at, spot, readFlag, writtenFlag}
 
 pub record Register (V : Type 0) : Type 0 where
   pub head : StartedHead
   pub tables : Contents V
+
+-- the register that the code's head and tables are
+abbrev pub registerOf : (V : Type 0) → Started → Tables V → Register V
+registerOf V head t = record { head = startedOf head; tables = contentsOf V t }
 
 ---- The job of crew w
 

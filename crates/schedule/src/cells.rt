@@ -27,7 +27,12 @@ fn fill_next<K: Kind>(head: &mut Filling, t: &mut Tables<'_, K>, value: K)
 }
 
 // Fills all cells from the lines of a text, and answers the text after them.
-pub(crate) fn fill_cells<'a, K: Kind>(head: &mut Filling, t: &mut Tables<'_, K>, reader: &mut Reader, text: &'a [u8]) -> Result<&'a [u8], BadLine>
+pub(crate) fn fill_cells<'a, K: Kind>(
+    head: &mut Filling,
+    t: &mut Tables<'_, K>,
+    reader: &mut Reader,
+    text: &'a [u8],
+) -> Result<&'a [u8], BadLine>
     requires { ⌜ FilledTo form (linesOf (now text)) 0 (fillingOf (now head)) (contentsOf K (now t)) (now reader) (linesOf (now text)) ⌝ }
     ensures same { λ _. ⌜ Same K (now (t .exit)) (now (t .entry)) ⌝ }
     ensures sizes { λ _. ⌜ dimensionsOf (now (head .exit) .sizes) ≡ dimensionsOf (now (head .entry) .sizes) ⌝ }

@@ -47,7 +47,12 @@ fn read_calls<K: Kind>(reader: &mut Reader, number: usize, text: &[u8]) -> Resul
 }
 
 // Makes a register from the lines of its cells and calls: fills it, starts it, and makes its calls.
-pub(crate) fn make_register<K: Kind>(sizes: Sizes, t: &mut Tables<'_, K>, reader: &mut Reader, text: &[u8]) -> Result<Started, BadLine>
+pub(crate) fn make_register<K: Kind>(
+    sizes: Sizes,
+    t: &mut Tables<'_, K>,
+    reader: &mut Reader,
+    text: &[u8],
+) -> Result<Started, BadLine>
     requires { ⌜ Fits {V = K} (dimensionsOf sizes) (contentsOf K (now t)) ⌝ ∗ ⌜ now reader ≡ record { stage = Cells; left = sizes .cells; width = form .width } ⌝ }
     ensures same { λ _. ⌜ Same K (now (t .exit)) (now (t .entry)) ⌝ }
     ensures read { λ r. ⌜ elim r [ Ok _ ↦ atCells form (sizes .cells) 3 [] (linesOf (now (text .entry))) ≡ map (valueLine form) (now (now (t .exit) .values)) | Err bad ↦ atCells form (sizes .cells) 3 [] (linesOf (now (text .entry))) ≡ badLine bad ] ⌝ }

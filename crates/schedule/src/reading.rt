@@ -25,11 +25,21 @@ use values::reading::read_value;
 
 // The next line of a text, which has this number, and the text after it; refused where the line is missing, or where the
 // reader does not take it.
-pub(crate) fn next_line<'a>(reader: &mut Reader, number: usize, text: &'a [u8]) -> Result<(&'a [u8], &'a [u8]), BadLine>
+pub(crate) fn next_line<'a>(
+    reader: &mut Reader,
+    number: usize,
+    text: &'a [u8],
+) -> Result<(&'a [u8], &'a [u8]), BadLine>
     ensures { λ r. ⌜ elim r [ Ok p ↦ (linesOf (now (text .entry)) ≡ now (p .0) ∷ linesOf (now (p .1))) × (badShape (now (reader .entry) .stage) (now (reader .entry) .width) (shapeOf (now (p .0))) ≡ None) × (now (reader .exit) ≡ movedOn (now (reader .entry) .stage) (now (reader .entry) .left) (now (reader .entry) .width)) | Err bad ↦ badNext number (now (reader .entry) .stage) (now (reader .entry) .width) (linesOf (now (text .entry))) ≡ Some bad ] ⌝ }
 {
     if text.is_empty() {
-        return Err(BadLine { line: number, at: BadField { field: 1, cause: Cause::WrongLetter } });
+        return Err(BadLine {
+            line: number,
+            at: BadField {
+                field: 1,
+                cause: Cause::WrongLetter,
+            },
+        });
     }
     let (line, rest) = read_line(text);
     match reader.take(shape_of(line)) {
@@ -62,7 +72,11 @@ fn chooser_line<'a>(reader: &mut Reader, text: &'a [u8]) -> Result<&'a [u8], Bad
 }
 
 // Reads line `number`, a cell's value.
-pub(crate) fn cell_line<'a, K: Kind>(reader: &mut Reader, number: usize, text: &'a [u8]) -> Result<(K, &'a [u8]), BadLine>
+pub(crate) fn cell_line<'a, K: Kind>(
+    reader: &mut Reader,
+    number: usize,
+    text: &'a [u8],
+) -> Result<(K, &'a [u8]), BadLine>
     ensures { λ r. ⌜ elim r [ Ok p ↦ ((next : K → Lines → Lines) → wanted number (now (reader .entry) .stage) (now (reader .entry) .width) (readCell form) next (linesOf (now (text .entry))) ≡ next (p .0) (linesOf (now (p .1)))) × (now (reader .exit) ≡ movedOn (now (reader .entry) .stage) (now (reader .entry) .left) (now (reader .entry) .width)) | Err bad ↦ ((next : K → Lines → Lines) → wanted number (now (reader .entry) .stage) (now (reader .entry) .width) (readCell form) next (linesOf (now (text .entry))) ≡ badLine bad) ] ⌝ }
 {
     let (line, rest) = next_line(reader, number, text)?;
@@ -85,7 +99,11 @@ pub(crate) struct Opening<'a> {
 pub(crate) fn read_opening<'a>(text: &'a [u8]) -> Result<Opening<'a>, BadLine>
     ensures { λ r. ⌜ elim r [ Ok o ↦ (atHead (linesOf (now (text .entry))) ≡ ofKind (o .head .kind) (o .head .cells) (linesOf (now (o .rest)))) × InRange (o .head) × (o .reader ≡ record { stage = Cells; left = o .head .cells; width = 0 }) | Err bad ↦ atHead (linesOf (now (text .entry))) ≡ badLine bad ] ⌝ }
 {
-    let mut reader = Reader { stage: Stage::Head, left: 0, width: 0 };
+    let mut reader = Reader {
+        stage: Stage::Head,
+        left: 0,
+        width: 0,
+    };
     let (head, rest) = head_line(&mut reader, text)?;
     reader.left = head.cells as usize;
     let rest = chooser_line(&mut reader, rest)?;

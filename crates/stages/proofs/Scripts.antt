@@ -21,25 +21,25 @@ use Rattle.stages.specs.ChooserLines.{numbersFrom, numbersIn}
 
 -- the next number, while one is left
 next-number : (got : List ℕ) (count i : ℕ) (rest : List ℕ) → i < count
-  → numbersFrom got (count - i) (3 + i) rest ≡ isNumber (3 + i) (numberIn (before 44 rest)) (λ x. numbersFrom (got ++ (x ∷ [])) (count - (i + 1)) (3 + i + 1) (after 44 rest))
+    → numbersFrom got (count - i) (3 + i) rest ≡ isNumber (3 + i) (numberIn (before 44 rest)) (λ x. numbersFrom (got ++ (x ∷ [])) (count - (i + 1)) (3 + i + 1) (after 44 rest))
 next-number got count i rest h =
     let e : count - i ≡ suc (count - (i + 1)) = omega arith in
     ap (λ (k : ℕ). numbersFrom got k (3 + i) rest) e
 
 pub no-number : (got : List ℕ) (count i : ℕ) (rest : List ℕ) → i < count → numberIn (before 44 rest) ≡ None
-  → numbersFrom got (count - i) (3 + i) rest ≡ Err (record { field = 3 + i; cause = NoNumber })
+    → numbersFrom got (count - i) (3 + i) rest ≡ Err (record { field = 3 + i; cause = NoNumber })
 no-number got count i rest h e =
     next-number got count i rest h
     ∙ ap (λ (o : Option ℕ). isNumber (3 + i) o (λ x. numbersFrom (got ++ (x ∷ [])) (count - (i + 1)) (3 + i + 1) (after 44 rest))) e
 
 pub one-more : (numbers : List ℕ) (count i : ℕ) (rest : List ℕ) (x : ℕ) → i < count → i < length numbers → numberIn (before 44 rest) ≡ Some x
-  → numbersFrom (take (i + 1) (set numbers i x)) (count - (i + 1)) (3 + (i + 1)) (after 44 rest) ≡ numbersFrom (take i numbers) (count - i) (3 + i) rest
+    → numbersFrom (take (i + 1) (set numbers i x)) (count - (i + 1)) (3 + (i + 1)) (after 44 rest) ≡ numbersFrom (take i numbers) (count - i) (3 + i) rest
 one-more numbers count i rest x h l e =
     let a : 3 + (i + 1) ≡ 3 + i + 1 = omega arith in
     ap (λ (at : ℕ). numbersFrom (take (i + 1) (set numbers i x)) (count - (i + 1)) at (after 44 rest)) a
     ∙ ap (λ (got : List ℕ). numbersFrom got (count - (i + 1)) (3 + i + 1) (after 44 rest)) (take-more-set numbers i x l)
     ∙ sym (next-number (take i numbers) count i rest h
-      ∙ ap (λ (o : Option ℕ). isNumber (3 + i) o (λ y. numbersFrom (take i numbers ++ (y ∷ [])) (count - (i + 1)) (3 + i + 1) (after 44 rest))) e)
+    ∙ ap (λ (o : Option ℕ). isNumber (3 + i) o (λ y. numbersFrom (take i numbers ++ (y ∷ [])) (count - (i + 1)) (3 + i + 1) (after 44 rest))) e)
 
 pub all-read : (got : List ℕ) (count i : ℕ) (rest : List ℕ) → i ≡ count → numbersFrom got (count - i) (3 + i) rest ≡ Ok got
 all-read got count i rest e =

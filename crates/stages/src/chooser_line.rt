@@ -27,11 +27,17 @@ fn read_stride(rest: &[u8]) -> Result<Stride, BadField>
 {
     let (field, _) = read_field(rest);
     let Some(step) = number(field) else {
-        return Err(BadField { field: 3, cause: Cause::NoNumber });
+        return Err(BadField {
+            field: 3,
+            cause: Cause::NoNumber,
+        });
     };
     match Stride::new(step) {
         Ok(stride) => Ok(stride),
-        Err(_) => Err(BadField { field: 3, cause: Cause::OutOfRange }),
+        Err(_) => Err(BadField {
+            field: 3,
+            cause: Cause::OutOfRange,
+        }),
     }
 }
 
@@ -43,13 +49,19 @@ fn read_script(line: &[u8], numbers: &mut [u64]) -> Result<usize, BadField>
 {
     let count = count_fields(line);
     if count > 256 || count > numbers.len() {
-        return Err(BadField { field: 1, cause: Cause::WrongCount });
+        return Err(BadField {
+            field: 1,
+            cause: Cause::WrongCount,
+        });
     }
     let mut rest = line;
     for i in 0..count {
         let (field, after) = read_field(rest);
         let Some(x) = number(field) else {
-            return Err(BadField { field: 3 + i, cause: Cause::NoNumber });
+            return Err(BadField {
+                field: 3 + i,
+                cause: Cause::NoNumber,
+            });
         };
         numbers[i] = x;
         rest = after;
@@ -67,6 +79,9 @@ pub fn read_chooser(line: &[u8], numbers: &mut [u64]) -> Result<ChooserLine, Bad
     match letter_of(letter) {
         Some(b'S') => Ok(ChooserLine::Stride(read_stride(rest)?)),
         Some(b'X') => Ok(ChooserLine::Script(read_script(rest, numbers)?)),
-        _ => Err(BadField { field: 2, cause: Cause::NoNumber }),
+        _ => Err(BadField {
+            field: 2,
+            cause: Cause::NoNumber,
+        }),
     }
 }

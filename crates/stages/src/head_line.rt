@@ -29,7 +29,10 @@ fn read_kind(field: &[u8]) -> Result<KindName, BadField>
     match letter_of(field) {
         Some(b'C') => Ok(KindName::Card),
         Some(b'D') => Ok(KindName::Dial),
-        _ => Err(BadField { field: 2, cause: Cause::NoNumber }),
+        _ => Err(BadField {
+            field: 2,
+            cause: Cause::NoNumber,
+        }),
     }
 }
 
@@ -38,8 +41,14 @@ fn read_size(field: &[u8], at: usize, most: u64) -> Result<u64, BadField>
     ensures { λ r. ⌜ r ≡ sizeIn at most (now (field .entry)) ⌝ }
 {
     match number(field) {
-        None => Err(BadField { field: at, cause: Cause::NoNumber }),
-        Some(n) if n < 1 || n > most => Err(BadField { field: at, cause: Cause::OutOfRange }),
+        None => Err(BadField {
+            field: at,
+            cause: Cause::NoNumber,
+        }),
+        Some(n) if n < 1 || n > most => Err(BadField {
+            field: at,
+            cause: Cause::OutOfRange,
+        }),
         Some(n) => Ok(n),
     }
 }
@@ -57,5 +66,10 @@ pub fn read_head(line: &[u8]) -> Result<HeadLine, BadField>
     let cells = read_size(cells, 3, 64)?;
     let crews = read_size(crews, 4, 8)?;
     let entries = read_size(entries, 5, 256)?;
-    Ok(HeadLine { kind, cells, crews, entries })
+    Ok(HeadLine {
+        kind,
+        cells,
+        crews,
+        entries,
+    })
 }

@@ -17,9 +17,15 @@ pub enum Stage {
     Calls,
 }
 
-const WRONG_LETTER: BadField = BadField { field: 1, cause: Cause::WrongLetter };
+const WRONG_LETTER: BadField = BadField {
+    field: 1,
+    cause: Cause::WrongLetter,
+};
 
-const WRONG_COUNT: BadField = BadField { field: 1, cause: Cause::WrongCount };
+const WRONG_COUNT: BadField = BadField {
+    field: 1,
+    cause: Cause::WrongCount,
+};
 
 // What decides whether a line may stand at a stage: the letters in its first two fields, and how many fields it has.
 #[derive(Clone, Copy)]
@@ -33,7 +39,11 @@ pub struct Shape {
 pub fn letter_of(field: &[u8]) -> Option<u8>
     ensures { λ r. ⌜ r ≡ letterOf (now (field .entry)) ⌝ }
 {
-    if field.len() == 1 { Some(field[0]) } else { None }
+    if field.len() == 1 {
+        Some(field[0])
+    } else {
+        None
+    }
 }
 
 // A line's shape.
@@ -42,7 +52,11 @@ pub fn shape_of(line: &[u8]) -> Shape
 {
     let (first, rest) = read_field(line);
     let (second, _) = read_field(rest);
-    Shape { letter: letter_of(first), second: letter_of(second), fields: count_fields(line) }
+    Shape {
+        letter: letter_of(first),
+        second: letter_of(second),
+        fields: count_fields(line),
+    }
 }
 
 // The reader of a schedule: its stage, how many cells are still to come, and how many fields a value has.
@@ -62,7 +76,8 @@ impl Reader {
         match (self.stage, line.letter, line.second) {
             (Stage::Head, Some(b'R'), _) if fields == 5 => self.stage = Stage::Chooser,
             (Stage::Chooser, Some(b'P'), Some(b'S')) if fields == 3 => self.stage = Stage::Cells,
-            (Stage::Chooser, Some(b'P'), Some(b'X')) if 3 <= fields && fields <= 258 => self.stage = Stage::Cells,
+            (Stage::Chooser, Some(b'P'), Some(b'X')) if 3 <= fields && fields <= 258 => self.stage =
+                Stage::Cells,
             (Stage::Chooser, Some(b'P'), Some(b'S' | b'X')) => return Err(WRONG_COUNT),
             (Stage::Chooser, Some(b'P'), _) if 2 <= fields => self.stage = Stage::Cells,
             (Stage::Cells, Some(b'V'), _) if 1 <= fields && fields - 1 == self.width => {
@@ -71,7 +86,9 @@ impl Reader {
                 }
                 self.left = self.left.saturating_sub(1);
             }
-            (Stage::Head, Some(b'R'), _) | (Stage::Chooser, Some(b'P'), _) | (Stage::Cells, Some(b'V'), _) => return Err(WRONG_COUNT),
+            (Stage::Head, Some(b'R'), _)
+            | (Stage::Chooser, Some(b'P'), _)
+            | (Stage::Cells, Some(b'V'), _) => return Err(WRONG_COUNT),
             _ => return Err(WRONG_LETTER),
         }
         Ok(())

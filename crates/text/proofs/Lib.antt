@@ -1,3 +1,3 @@
 pub mod Reading
 pub mod Splitting
-pub mod Back
+pub mod Decimals

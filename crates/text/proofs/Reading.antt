@@ -1,3 +1,4 @@
+-- A number read digit by digit.
 use mathlib.Core.Path.{_≡_, refl, sym, ap, _∙_}
 use mathlib.Core.Bool.{Bool, true, false, cond, _&&_}
 use mathlib.Core.Logic.{_⊎_, inl, inr, ⊎-elim}
@@ -15,20 +16,23 @@ use Rattle.std.specs.declared.option.Option.{Option}
 use Rattle.std.specs.declared.option.Option.the-variants.{Some, None}
 use Rattle.text.specs.Numbers.{isDigit, digitsAfter, numberIn}
 
+-- one digit more
 pub read-more : (xs : List ℕ) (i n : ℕ) → i < length xs → 48 ≤ getD xs i 0 → getD xs i 0 ≤ 57 → digitsAfter n (drop i xs) ≡ digitsAfter (n * 10 + (getD xs i 0 - 48)) (drop (i + 1) xs)
 read-more xs i n h a b =
     let e : isDigit (getD xs i 0) ≡ true = and-from _ _ (le-leb 48 (getD xs i 0) a) (le-leb (getD xs i 0) 57 b) in
     at-drop-more (digitsAfter n) xs i 0 h ∙ cond-true (isDigit (getD xs i 0)) _ _ e
 
+-- a byte that is no digit ends it
 pub read-stop : (xs : List ℕ) (i n : ℕ) → i < length xs → isDigit (getD xs i 0) ≡ false → digitsAfter n (drop i xs) ≡ None
 read-stop xs i n h e = at-drop-more (digitsAfter n) xs i 0 h ∙ cond-false (isDigit (getD xs i 0)) _ _ e
 
-pub low-stops : (x : ℕ) → x < 48 → isDigit x ≡ false
-low-stops x h = and-left (leb 48 x) (leb x 57) (lt-leb 48 x h)
+pub below-digits : (x : ℕ) → x < 48 → isDigit x ≡ false
+below-digits x h = and-left (leb 48 x) (leb x 57) (lt-leb 48 x h)
 
-pub high-stops : (x : ℕ) → 57 < x → isDigit x ≡ false
-high-stops x h = and-right (leb 48 x) (leb x 57) (lt-leb x 57 h)
+pub above-digits : (x : ℕ) → 57 < x → isDigit x ≡ false
+above-digits x h = and-right (leb 48 x) (leb x 57) (lt-leb x 57 h)
 
+-- i digits give a number under 10 ^ i, and 19 of them fit 64 bits
 pub more-lt : (n i d : ℕ) → n < 10 ^ i → d ≤ 9 → n * 10 + d < 10 ^ (i + 1)
 more-lt n i d h k = rw (add-one, pow-suc 10 i) (omega arith)
 

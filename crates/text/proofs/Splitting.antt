@@ -1,3 +1,4 @@
+-- Where a text is cut: fields, lines, and the count of fields.
 use mathlib.Core.Path.{_≡_, refl, sym, ap, _∙_}
 use mathlib.Core.Bool.{Bool, true, false, cond}
 use mathlib.Core.List.{List, [], _∷_}
@@ -10,6 +11,7 @@ use borrow.Author.Tests.{eq-eqb, ne-eqb}
 use lib.ListN.{length, getD, take, drop}
 use Rattle.text.specs.Split.{before, after, fieldCount, linesOf, joined}
 
+-- the first separator stands at i
 pub cut-at : (s : ℕ) (xs : List ℕ) (i : ℕ) → i < length xs → ((k : ℕ) → k < i → getD xs k 0 ≡ s → ⊥) → getD xs i 0 ≡ s → (take i xs ≡ before s xs) × (drop (suc i) xs ≡ after s xs)
 cut-at s [] i h f e = absurd (omega arith)
 cut-at s (x ∷ xs) zero h f e = let t = eq-eqb x s e in (simp t, simp t)
@@ -18,6 +20,7 @@ cut-at s (x ∷ xs) (suc i) h f e =
     let r = cut-at s xs i (omega arith) (λ k q. f (suc k) (omega arith)) e in
     (simp t (ap (λ (l : List ℕ). x ∷ l) (r .0)), simp t (r .1))
 
+-- there is no separator
 pub cut-none : (s : ℕ) (xs : List ℕ) → ((k : ℕ) → k < length xs → getD xs k 0 ≡ s → ⊥) → (xs ≡ before s xs) × ([] ≡ after s xs)
 cut-none s [] f = (refl, refl)
 cut-none s (x ∷ xs) f =
@@ -26,7 +29,7 @@ cut-none s (x ∷ xs) f =
     (simp t (ap (λ (l : List ℕ). x ∷ l) (r .0)), simp t (r .1))
 
 lines-step : (x y : ℕ) (ys : List ℕ) (b : Bool) → linesOf (y ∷ ys) ≡ before 10 (y ∷ ys) ∷ linesOf (after 10 (y ∷ ys))
-  → cond b ([] ∷ linesOf (y ∷ ys)) (joined x (linesOf (y ∷ ys))) ≡ cond b [] (x ∷ before 10 (y ∷ ys)) ∷ linesOf (cond b (y ∷ ys) (after 10 (y ∷ ys)))
+    → cond b ([] ∷ linesOf (y ∷ ys)) (joined x (linesOf (y ∷ ys))) ≡ cond b [] (x ∷ before 10 (y ∷ ys)) ∷ linesOf (cond b (y ∷ ys) (after 10 (y ∷ ys)))
 lines-step x y ys true h = refl
 lines-step x y ys false h = ap (joined x) h
 
@@ -34,11 +37,12 @@ lines-last : (x : ℕ) (b : Bool) → cond b ([] ∷ []) ((x ∷ []) ∷ []) ≡
 lines-last x true = refl
 lines-last x false = refl
 
+-- a text that is not empty begins with what stands before its first line feed
 pub lines-are : (x : ℕ) (xs : List ℕ) → linesOf (x ∷ xs) ≡ before 10 (x ∷ xs) ∷ linesOf (after 10 (x ∷ xs))
 lines-are x [] = lines-last x (eqb x 10)
 lines-are x (y ∷ ys) = lines-step x y ys (eqb x 10) (lines-are y ys)
 
-pub count-more : (xs : List ℕ) (i : ℕ) → i < length xs → fieldCount (drop i xs) ≡ cond (eqb (getD xs i 0) 44) (1 + fieldCount (drop (i + 1) xs)) (fieldCount (drop (i + 1) xs))
+count-more : (xs : List ℕ) (i : ℕ) → i < length xs → fieldCount (drop i xs) ≡ cond (eqb (getD xs i 0) 44) (1 + fieldCount (drop (i + 1) xs)) (fieldCount (drop (i + 1) xs))
 count-more xs i h = at-drop-more fieldCount xs i 0 h
 
 pub count-all : (xs : List ℕ) (i : ℕ) → length xs ≤ i → fieldCount (drop i xs) ≡ 1

@@ -15,7 +15,7 @@ use Rattle.std.proofs.shelf.Lists.{append-nil}
 use Rattle.std.proofs.shelf.Tests.{and-parts, ne-eqb, leb-true}
 use Rattle.text.specs.Numbers.{isDigit, numberIn}
 use Rattle.text.specs.Split.{before, after}
-use Rattle.text.proofs.Back.{reads-back, digitsOnly, only-digits}
+use Rattle.text.proofs.Decimals.{reads-back, digitsOnly, only-digits}
 use Rattle.values.specs.Forms.{Form, afterCommas, written, readFrom, isNumber, inRange}
 
 no-comma : (c : ℕ) → isDigit c ≡ true → eqb c 44 ≡ false
@@ -53,7 +53,7 @@ Puts {V} form i v (x ∷ xs) w = (x < 10 ^ 19) × ((u : V) × (form .withField v
 
 -- numbers that may be put into their fields are read back from what is written of them
 pub fields-read-back : {V : Type 0} (form : Form V) (first i : ℕ) (v : V) (xs : List ℕ) (w : V) → Puts form i v xs w
-  → readFrom form first (length xs) i v (written xs) ≡ Ok w
+    → readFrom form first (length xs) i v (written xs) ≡ Ok w
 fields-read-back form first i v [] w h = ap (λ u. Ok u) h
 fields-read-back {V} form first i v (x ∷ xs) w h =
     let p = first-field x xs (h .0) in

@@ -32,11 +32,12 @@ cardWith v (suc (suc (suc i))) x = None
 
 abbrev pub cardForm : Form Card
 cardForm = record {
-    width = 3;
-    fields = λ v. v .serial ∷ (v .litres ∷ (v .gateway ∷ []));
-    inside = λ v. serialFits (v .serial) && (litresFit (v .litres) && gatewayFits (v .gateway));
-    blank = record { serial = 0; litres = 0; gateway = 0 };
-    withField = cardWith }
+  width = 3;
+  fields = λ v. v .serial ∷ (v .litres ∷ (v .gateway ∷ []));
+  inside = λ v. serialFits (v .serial) && (litresFit (v .litres) && gatewayFits (v .gateway));
+  blank = record { serial = 0; litres = 0; gateway = 0 };
+  withField = cardWith;
+}
 
 ---- A dial: one number
 
@@ -49,8 +50,9 @@ dialWith v (suc i) x = None
 
 abbrev pub dialForm : Form Dial
 dialForm = record {
-    width = 1;
-    fields = λ v. v .number ∷ [];
-    inside = λ v. numberFits (v .number);
-    blank = record { number = 0 };
-    withField = dialWith }
+  width = 1;
+  fields = λ v. v .number ∷ [];
+  inside = λ v. numberFits (v .number);
+  blank = record { number = 0 };
+  withField = dialWith;
+}

@@ -49,7 +49,11 @@ pub impl Kind for Card as CardKind {
     }
 
     fn blank() -> Card {
-        Card { serial: 0, litres: 0, gateway: 0 }
+        Card {
+            serial: 0,
+            litres: 0,
+            gateway: 0,
+        }
     }
 
     fn field(&self, i: usize) -> u64 {
@@ -63,9 +67,18 @@ pub impl Kind for Card as CardKind {
 
     fn with_field(self, i: usize, x: u64) -> Option<Card> {
         match i {
-            0 if 1 <= x && x <= 99_999_999 => Some(Card { serial: x as u32, ..self }),
-            1 if x <= 999_999_999 => Some(Card { litres: x as u32, ..self }),
-            2 if 1 <= x && x <= 65_535 => Some(Card { gateway: x as u16, ..self }),
+            0 if 1 <= x && x <= 99_999_999 => Some(Card {
+                serial: x as u32,
+                ..self
+            }),
+            1 if x <= 999_999_999 => Some(Card {
+                litres: x as u32,
+                ..self
+            }),
+            2 if 1 <= x && x <= 65_535 => Some(Card {
+                gateway: x as u16,
+                ..self
+            }),
             _ => None,
         }
     }

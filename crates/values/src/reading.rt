@@ -17,10 +17,16 @@ pub fn read_value<K: Kind>(line: &[u8], first: u8) -> Result<K, BadField>
         let field = first as usize + i;
         let (part, after) = read_field(rest);
         let Some(x) = number(part) else {
-            return Err(BadField { field, cause: Cause::NoNumber });
+            return Err(BadField {
+                field,
+                cause: Cause::NoNumber,
+            });
         };
         let Some(next) = value.with_field(i, x) else {
-            return Err(BadField { field, cause: Cause::OutOfRange });
+            return Err(BadField {
+                field,
+                cause: Cause::OutOfRange,
+            });
         };
         value = next;
         rest = after;

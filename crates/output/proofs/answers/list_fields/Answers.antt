@@ -7,14 +7,15 @@ use Rattle.std.proofs.shelf.Lists.{take-more, take-more-set, take-all, length-s
 use Rattle.output.proofs.answers.list_fields.Needs as need
 
 pub loop-i-again : need.loop-i-again
-loop-i-again g c = 
+loop-i-again g c =
     let lt : c .loop-i .i < length (c .loop-i .numbers) = omega (arith, c .count-i-end .ensures, g .K·Kind·met .few, c .loop-i .inv .1) in
-    let lf : c .loop-i .i < length (g .K·Kind .form .fields (c .args .value .now)) = omega (arith, c .count-i-end .ensures, g .K·Kind·met .width (c .args .value .now)) in
-    (take-more-set (c .loop-i .numbers) (c .loop-i .i) (c .field .result) lt
-       ∙ ap (λ (xs : List ℕ). xs ++ (c .field .result ∷ [])) (c .loop-i .inv .0)
-       ∙ ap (λ (x : ℕ). take (c .loop-i .i) (g .K·Kind .form .fields (c .args .value .now)) ++ (x ∷ [])) (c .field .ensures)
-       ∙ sym (take-more (g .K·Kind .form .fields (c .args .value .now)) (c .loop-i .i) 0 lf),
-     length-set (c .loop-i .numbers) (c .loop-i .i) (c .field .result) ∙ c .loop-i .inv .1)
+    let lf : c .loop-i .i < length (g .K·Kind .form .fields (c .args .value .now)) = omega (arith, c .count-i-end .ensures, g .K·Kind·met .width (c .args .value .now)) in (
+      take-more-set (c .loop-i .numbers) (c .loop-i .i) (c .field .result) lt
+          ∙ ap (λ (xs : List ℕ). xs ++ (c .field .result ∷ [])) (c .loop-i .inv .0)
+          ∙ ap (λ (x : ℕ). take (c .loop-i .i) (g .K·Kind .form .fields (c .args .value .now)) ++ (x ∷ [])) (c .field .ensures)
+          ∙ sym (take-more (g .K·Kind .form .fields (c .args .value .now)) (c .loop-i .i) 0 lf),
+      length-set (c .loop-i .numbers) (c .loop-i .i) (c .field .result) ∙ c .loop-i .inv .1,
+    )
 
 pub returns : need.returns
 returns g c =
@@ -22,4 +23,5 @@ returns g c =
     record {
       count = c .count .ensures;
       front = ap (λ (k : ℕ). take k (c .loop-i .numbers)) e ∙ c .loop-i .inv .0
-        ∙ take-all (c .loop-i .i) (g .K·Kind .form .fields (c .args .value .now)) (omega (arith, c .count-i-end .ensures, g .K·Kind·met .width (c .args .value .now))) }
+          ∙ take-all (c .loop-i .i) (g .K·Kind .form .fields (c .args .value .now)) (omega (arith, c .count-i-end .ensures, g .K·Kind·met .width (c .args .value .now)));
+    }

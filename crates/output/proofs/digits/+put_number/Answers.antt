@@ -39,5 +39,6 @@ returns t c =
     let one = laid-one (c .put-number-last .last .out) (c .put-number-last .result) (48 + c .args .n % 10) (omega (arith, e, c .put-number-last .ensures .ends, c .put-number-last .kept .out)) in
     record {
       text = then-laid (c .args .out .now) _ _ (c .args .at) (c .put-number-last .result) (decimal (c .args .n / 10)) ((48 + c .args .n % 10) ∷ []) (c .put-number-last .ensures .text) (c .put-number-last .ensures .ends) (omega (arith, e)) one
-        ∙ ap (laid (c .args .out .now) (c .args .at)) (sym (decimal-step (c .args .n) (omega arith) (omega arith)));
-      ends = omega (arith, e, c .put-number-last .ensures .ends) }
+          ∙ ap (laid (c .args .out .now) (c .args .at)) (sym (decimal-step (c .args .n) (omega arith) (omega arith)));
+      ends = omega (arith, e, c .put-number-last .ensures .ends);
+    }

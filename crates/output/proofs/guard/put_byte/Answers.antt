@@ -14,5 +14,6 @@ returns c =
     let room = leb-true (c .args .line .now .count .now .used + 1 + 64) (length (c .args .out .now)) (sym (c .if-not-has-room .ensures tt)) in
     record {
       writes = writes-true (c .args .line .now .count .now .used) (c .args .out .now) (c .args .b ∷ []) _ _ (omega (arith, room)) refl
-        (laid-one (c .args .out .now) (c .args .line .now .count .now .used) (c .args .b) (omega (arith, room)));
-      same = search needs }
+          (laid-one (c .args .out .now) (c .args .line .now .count .now .used) (c .args .b) (omega (arith, room)));
+      same = search needs;
+    }

@@ -13,4 +13,5 @@ returns c =
     let room = leb-true (c .args .line .now .count .now .used + c .width .result + 64) (length (c .args .out .now)) (sym (c .if-not-has-room .ensures tt)) in
     record {
       writes = writes-true (c .args .line .now .count .now .used) (c .args .out .now) (decimal (c .args .n)) _ _ (omega (arith, room, c .width .ensures)) (c .put-number-line .ensures .ends) (c .put-number-line .ensures .text);
-      same = search needs }
+      same = search needs;
+    }

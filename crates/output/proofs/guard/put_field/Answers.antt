@@ -13,4 +13,5 @@ pub returns : need.returns
 returns c =
     record {
       writes = writes-then _ _ _ _ _ _ _ _ _ (c .in-Continue-put-byte .ensures tt .writes) (c .put-digits .ensures .writes);
-      same = search needs }
+      same = search needs;
+    }

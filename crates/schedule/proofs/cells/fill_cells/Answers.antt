@@ -20,11 +20,12 @@ returns-in-Break-value g c =
     let cells = ap (λ (d : Dimensions). d .cells) (c .loop-i .inv .2) in
     let lt : c .loop-i .i < c .loop-i .head .sizes .cells = omega (arith, cells, c .loop-i-test .taken) in
     let bad = cell-bad (g .K·Kind .form) (linesOf (c .args .text .now)) (c .loop-i .i) (fillingOf (c .loop-i .head)) (contentsOf _ (c .loop-i .t)) (c .loop-i .reader) (linesOf (c .loop-i .rest .now)) (c .in-Break-value .field-0 .0)
-        (c .loop-i .inv .0) lt (c .in-Break-value .ensures tt) in
+    (c .loop-i .inv .0) lt (c .in-Break-value .ensures tt) in
     record {
       same = c .loop-i .inv .1;
       sizes = c .loop-i .inv .2;
-      read = rw (p .1, p .2) (rw cells at bad) }
+      read = rw (p .1, p .2) (rw cells at bad);
+    }
 
 pub fill-next-requires : need.fill-next-requires
 fill-next-requires g c κs =
@@ -35,12 +36,13 @@ pub loop-i-again : need.loop-i-again
 loop-i-again g c =
     let cells = ap (λ (d : Dimensions). d .cells) (c .loop-i .inv .2) in
     let lt : c .loop-i .i < c .loop-i .head .sizes .cells = omega (arith, cells, c .loop-i-test .taken) in
-    let line = c .in-Continue-value .ensures tt in
-    (cell-filled (g .K·Kind .form) (linesOf (c .args .text .now)) (c .loop-i .i) (fillingOf (c .loop-i .head)) (fillingOf (c .fill-next .last .head)) (contentsOf _ (c .loop-i .t)) (contentsOf _ (c .fill-next .last .t))
-       (c .loop-i .reader) (c .cell-line .last .reader) (linesOf (c .loop-i .rest .now)) (linesOf (c .in-Continue-value .after .now)) (c .in-Continue-value .value)
-       (c .loop-i .inv .0) lt (line .0) (line .1) (c .fill-next .ensures .filled) (c .fill-next .ensures .contents),
-     same-then _ _ _ _ (c .loop-i .inv .1) (c .fill-next .ensures .same),
-     ap (λ (h : FillingHead). h .sizes) (c .fill-next .ensures .filled) ∙ c .loop-i .inv .2)
+    let line = c .in-Continue-value .ensures tt in (
+      cell-filled (g .K·Kind .form) (linesOf (c .args .text .now)) (c .loop-i .i) (fillingOf (c .loop-i .head)) (fillingOf (c .fill-next .last .head)) (contentsOf _ (c .loop-i .t)) (contentsOf _ (c .fill-next .last .t))
+          (c .loop-i .reader) (c .cell-line .last .reader) (linesOf (c .loop-i .rest .now)) (linesOf (c .in-Continue-value .after .now)) (c .in-Continue-value .value)
+          (c .loop-i .inv .0) lt (line .0) (line .1) (c .fill-next .ensures .filled) (c .fill-next .ensures .contents),
+      same-then _ _ _ _ (c .loop-i .inv .1) (c .fill-next .ensures .same),
+      ap (λ (h : FillingHead). h .sizes) (c .fill-next .ensures .filled) ∙ c .loop-i .inv .2,
+    )
 
 pub returns : need.returns
 returns g c =
@@ -48,4 +50,5 @@ returns g c =
     record {
       same = c .loop-i .inv .1;
       sizes = c .loop-i .inv .2;
-      read = subst P (omega arith) (c .loop-i .inv .0) }
+      read = subst P (omega arith) (c .loop-i .inv .0);
+    }

@@ -20,8 +20,9 @@ returns g c =
     record {
       same = same-then _ _ _ _ (filled .same) (c .start-filled-started .ensures .same);
       read =
-        sym (ap (λ (k : ℕ). atCells (g .K·Kind .form) k 3 [] (linesOf (c .args .text .now))) n)
-        ∙ read
-        ∙ ap (λ (k : ℕ). atCalls (g .K·Kind .form) (3 + k) (contentsOf _ (c .fill-cells .last .t) .values) (linesOf (c .in-Continue-rest .rest .now))) n
-        ∙ c .in-Continue-read-calls .ensures tt (contentsOf _ (c .fill-cells .last .t) .values)
-        ∙ sym (ap (λ (q : Contents _). map (valueLine (g .K·Kind .form)) (q .values)) (c .start-filled-started .ensures .contents)) }
+          sym (ap (λ (k : ℕ). atCells (g .K·Kind .form) k 3 [] (linesOf (c .args .text .now))) n)
+          ∙ read
+          ∙ ap (λ (k : ℕ). atCalls (g .K·Kind .form) (3 + k) (contentsOf _ (c .fill-cells .last .t) .values) (linesOf (c .in-Continue-rest .rest .now))) n
+          ∙ c .in-Continue-read-calls .ensures tt (contentsOf _ (c .fill-cells .last .t) .values)
+          ∙ sym (ap (λ (q : Contents _). map (valueLine (g .K·Kind .form)) (q .values)) (c .start-filled-started .ensures .contents));
+    }

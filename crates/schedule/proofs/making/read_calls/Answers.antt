@@ -10,4 +10,4 @@ returns-then-is-empty g c values = ap (atCalls (g .K·Kind .form) (c .args .numb
 pub returns-in-Err : need.returns-in-Err
 returns-in-Err g c =
     calls-bad (g .K·Kind .form) (c .args .number) (c .args .reader .now .stage) (c .args .reader .now .width) (before 10 (c .args .text .now)) (linesOf (after 10 (c .args .text .now))) (linesOf (c .args .text .now)) (c .in-Err .bad)
-      (c .pre) (first-line (c .args .text .now) (sym (c .if-is-empty .ensures tt))) (c .in-Err .ensures tt)
+    (c .pre) (first-line (c .args .text .now) (sym (c .if-is-empty .ensures tt))) (c .in-Err .ensures tt)

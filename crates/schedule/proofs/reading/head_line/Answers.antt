@@ -14,7 +14,8 @@ returns-in-Break-line c =
 pub returns-in-Ok : need.returns-in-Ok
 returns-in-Ok c =
     let next = c .in-Continue-line .ensures tt in
-    let read = sym (c .in-Ok .ensures tt) in
-    (λ go. wanted-read 1 _ _ readHead go (linesOf (c .args .text .now)) (c .in-Continue-line .line .now) (linesOf (c .in-Continue-line .rest .now)) (c .in-Ok .head) (next .0) (next .1) read,
-     head-in-range (c .in-Continue-line .line .now) (c .in-Ok .head) read,
-     next .2)
+    let read = sym (c .in-Ok .ensures tt) in (
+      λ go. wanted-read 1 _ _ readHead go (linesOf (c .args .text .now)) (c .in-Continue-line .line .now) (linesOf (c .in-Continue-line .rest .now)) (c .in-Ok .head) (next .0) (next .1) read,
+      head-in-range (c .in-Continue-line .line .now) (c .in-Ok .head) read,
+      next .2,
+    )

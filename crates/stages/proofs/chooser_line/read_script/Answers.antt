@@ -16,16 +16,18 @@ returns-in-rest c =
     let r = has-room (length (c .args .numbers .now)) (c .count-fields-count .result) (c .args .line .now) (c .count-fields-count .ensures) (omega arith) (omega arith) in
     record {
       read = sym n ∙ c .loop-i .inv .0 ∙ sym r;
-      rest = drops-as _ (c .args .line .now) _ _ (c .count-fields-count .ensures) (c .loop-i .inv .1) }
+      rest = drops-as _ (c .args .line .now) _ _ (c .count-fields-count .ensures) (c .loop-i .inv .1);
+    }
 
 pub loop-i-again : need.loop-i-again
 loop-i-again c =
     let e = ap numberIn (sym (c .read-field .ensures .field)) ∙ sym (c .number .ensures) ∙ c .in-Some .is in
-    let lt : c .loop-i .i < length (c .loop-i .numbers) = omega (arith, c .loop-i .kept .numbers) in
-    (ap (λ bs. numbersFrom (take (c .loop-i .i + 1) (set (c .loop-i .numbers) (c .loop-i .i) (c .in-Some .x))) (c .count-fields-count .result - (c .loop-i .i + 1)) (3 + (c .loop-i .i + 1)) bs) (c .read-field .ensures .rest)
-       ∙ one-more (c .loop-i .numbers) (c .count-fields-count .result) (c .loop-i .i) (c .loop-i .rest .now) (c .in-Some .x) (omega arith) lt e
-       ∙ c .loop-i .inv .0,
-     drop-set-lt (c .count-fields-count .result) (c .loop-i .numbers) (c .loop-i .i) (c .in-Some .x) (omega arith) ∙ c .loop-i .inv .1)
+    let lt : c .loop-i .i < length (c .loop-i .numbers) = omega (arith, c .loop-i .kept .numbers) in (
+      ap (λ bs. numbersFrom (take (c .loop-i .i + 1) (set (c .loop-i .numbers) (c .loop-i .i) (c .in-Some .x))) (c .count-fields-count .result - (c .loop-i .i + 1)) (3 + (c .loop-i .i + 1)) bs) (c .read-field .ensures .rest)
+          ∙ one-more (c .loop-i .numbers) (c .count-fields-count .result) (c .loop-i .i) (c .loop-i .rest .now) (c .in-Some .x) (omega arith) lt e
+          ∙ c .loop-i .inv .0,
+      drop-set-lt (c .count-fields-count .result) (c .loop-i .numbers) (c .loop-i .i) (c .in-Some .x) (omega arith) ∙ c .loop-i .inv .1,
+    )
 
 pub returns : need.returns
 returns c =
@@ -34,4 +36,5 @@ returns c =
     let r = has-room (length (c .args .numbers .now)) (c .count-fields-count .result) (c .args .line .now) (c .count-fields-count .ensures) (omega arith) (omega arith) in
     record {
       read = ap (λ k. Ok (take k (c .loop-i .numbers))) (sym e) ∙ sym a ∙ c .loop-i .inv .0 ∙ sym r;
-      rest = drops-as _ (c .args .line .now) _ _ (c .count-fields-count .ensures) (c .loop-i .inv .1) }
+      rest = drops-as _ (c .args .line .now) _ _ (c .count-fields-count .ensures) (c .loop-i .inv .1);
+    }

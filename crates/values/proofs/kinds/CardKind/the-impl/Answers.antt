@@ -13,7 +13,18 @@ reads-back-law v first h =
     let s = leb-true (v .serial) 99999999 (and-parts (leb 1 (v .serial)) _ (a .0) .1) in
     let l = leb-true (v .litres) 999999999 (and-parts (leb 0 (v .litres)) _ (b .0) .1) in
     let w = leb-true (v .gateway) 65535 (and-parts (leb 1 (v .gateway)) _ (b .1) .1) in
-    fields-read-back cardForm first 0 (cardForm .blank) (cardForm .fields v) v
-      (omega arith, (record { serial = v .serial; litres = 0; gateway = 0 }, cond-true _ _ _ (a .0),
-       (omega arith, (record { serial = v .serial; litres = v .litres; gateway = 0 }, cond-true _ _ _ (b .0),
-        (omega arith, (v, cond-true _ _ _ (b .1), refl))))))
+    fields-read-back cardForm first 0 (cardForm .blank) (cardForm .fields v) v (
+      omega arith,
+      (
+        record { serial = v .serial; litres = 0; gateway = 0 },
+        cond-true _ _ _ (a .0),
+        (
+          omega arith,
+          (
+            record { serial = v .serial; litres = v .litres; gateway = 0 },
+            cond-true _ _ _ (b .0),
+            (omega arith, (v, cond-true _ _ _ (b .1), refl)),
+          ),
+        ),
+      ),
+    )

@@ -11,4 +11,4 @@ reads-back-law v first h =
     let p = and-parts _ _ h in
     let t = leb-true (v .number) 999999999 (p .1) in
     fields-read-back dialForm first 0 (dialForm .blank) (dialForm .fields v) v
-      (omega arith, (v, cond-true _ _ _ h, refl))
+    (omega arith, (v, cond-true _ _ _ h, refl))

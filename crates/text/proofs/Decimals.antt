@@ -1,3 +1,4 @@
+-- What is written of a number has only digits, and reads back as the number.
 use mathlib.Core.Path.{_≡_, refl, sym, ap, _∙_}
 use mathlib.Core.Bool.{Bool, true, false, cond, _&&_}
 use mathlib.Core.List.{List, [], _∷_, _++_}
@@ -14,6 +15,7 @@ use Rattle.std.proofs.shelf.Tests.{and-parts, cond-true}
 use Rattle.text.specs.Numbers.{isDigit, digitsAfter, numberIn}
 use Rattle.text.proofs.Reading.{in-bounds}
 
+-- the number that digits write after n
 abbrev fold : ℕ → List ℕ → ℕ
 fold n [] = n
 fold n (c ∷ cs) = fold (n * 10 + (c - 48)) cs
