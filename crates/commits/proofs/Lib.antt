@@ -1,2 +1,3 @@
 mod Looping
 mod LoweredHighs
+mod Stored
