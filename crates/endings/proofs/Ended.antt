@@ -21,8 +21,8 @@ remade a head jobs flags book = record {
 }
 
 pub ended-all : {V : Type 0} (r a : Register V) (w p : ℕ) (head : StartedHead) (jobs : List JobRecord) (flags : List ℕ) (book : List Entry)
-  → a ≡ withReads r (raisedReads r w p) → head ≡ endedHead (r .head) p → jobs ≡ put (a .tables .jobs) w closedRecord → flags ≡ cleared (a .tables .flags) (a .head .sizes .cells) w
-  → remade a head jobs flags book ≡ withBook (endedAt r w p) book
+    → a ≡ withReads r (raisedReads r w p) → head ≡ endedHead (r .head) p → jobs ≡ put (a .tables .jobs) w closedRecord → flags ≡ cleared (a .tables .flags) (a .head .sizes .cells) w
+    → remade a head jobs flags book ≡ withBook (endedAt r w p) book
 ended-all {V} r a w p head jobs flags book raised counted closed clear =
     ap (λ (h : StartedHead). remade a h jobs flags book) counted
     ∙ (ap (λ (js : List JobRecord). remade a (endedHead (r .head) p) js flags book) closed

@@ -39,9 +39,9 @@ module _ (bs : List Entry) (k : ℕ) (fit : k < length bs) where
 
   shift-down : (j : ℕ) (d : Entry) → j < k → shifted bs k (j + 1) (getD bs j d) ≡ shifted bs k j (getD bs j d)
   shift-down j d l =
-    ap (λ (z : List Entry). z ++ (getD bs j d ∷ (drop (j + 1) (take k bs) ++ drop (k + 1) bs))) (take-more bs j d (omega arith))
-    ∙ (append-assoc (take j bs) (getD bs j d ∷ []) (getD bs j d ∷ (drop (j + 1) (take k bs) ++ drop (k + 1) bs))
-    ∙ ap (λ (z : List Entry). take j bs ++ (getD bs j d ∷ (z ++ drop (k + 1) bs))) (sym (back-more j d l)))
+      ap (λ (z : List Entry). z ++ (getD bs j d ∷ (drop (j + 1) (take k bs) ++ drop (k + 1) bs))) (take-more bs j d (omega arith))
+      ∙ (append-assoc (take j bs) (getD bs j d ∷ []) (getD bs j d ∷ (drop (j + 1) (take k bs) ++ drop (k + 1) bs))
+      ∙ ap (λ (z : List Entry). take j bs ++ (getD bs j d ∷ (z ++ drop (k + 1) bs))) (sym (back-more j d l)))
 
   pub shift-more : (j : ℕ) (x d : Entry) → j < k → set (shifted bs k (j + 1) x) (j + 1) (getD (shifted bs k (j + 1) x) j d) ≡ shifted bs k j (getD bs j d)
   shift-more j x d l = ap (set (shifted bs k (j + 1) x) (j + 1)) (shift-read j x d l) ∙ (shift-set (j + 1) x (getD bs j d) (omega arith) ∙ shift-down j d l)
@@ -76,6 +76,7 @@ front-below bs back e d (suc j) l h c = rw at-j (ascends-last (take j bs) (getD 
   where
     at-j : take (suc j) bs ≡ take j bs ++ (getD bs j d ∷ [])
     at-j = rw (← add-one) (take-more bs j d (omega arith))
+
     last : getD bs j d .place .0 ≤ e .place .0
     last = let z : suc j - 1 ≡ j = omega arith in rw z at (h (omega arith))
 
@@ -87,7 +88,8 @@ inserted-at bs k fit e d i l above below = record {
   is = ap (take (k + 1)) (whole bs k fit e i l) ∙ take-at (take i bs ++ (e ∷ drop i (take k bs))) (drop (k + 1) bs) (k + 1) (first-long bs k fit e i l);
   past-unaltered = ap (drop (k + 1)) (whole bs k fit e i l) ∙ drop-at (take i bs ++ (e ∷ drop i (take k bs))) (drop (k + 1) bs) (k + 1) (first-long bs k fit e i l);
   same-length = ap length (whole bs k fit e i l) ∙ (length-append (take i bs ++ (e ∷ drop i (take k bs))) (drop (k + 1) bs) ∙ (let a = first-long bs k fit e i l in let b = length-drop (k + 1) bs in omega arith));
-  in-place = λ c. (front-below bs (drop i (take k bs)) e d i (omega arith) below c, above) }
+  in-place = λ c. (front-below bs (drop i (take k bs)) e d i (omega arith) below c, above);
+}
 
 ---- The same of a list that is known to be shifted
 

@@ -15,7 +15,7 @@ module _ {V A : Type 0} (W : Register V → List A → Register V) (G : Register
     (inv : a ≡ W r (upto (one-more (f r) d) i (G r))) where
   -- one turn more
   pub turn-more : ((xs : List A) → getD xs i d ≡ getD (G r) i d → W (W r xs) (set (G (W r xs)) i (f (W r xs) (suc i) (getD (G (W r xs)) i d))) ≡ W r (set xs i (f r (suc i) (getD xs i d)))) →
-    b ≡ W a (set (G a) i (f a (suc i) (getD (G a) i d))) → b ≡ W r (upto (one-more (f r) d) (i + 1) (G r))
+      b ≡ W a (set (G a) i (f a (suc i) (getD (G a) i d))) → b ≡ W r (upto (one-more (f r) d) (i + 1) (G r))
   turn-more same e = rw add-one (e ∙ (ap (λ (x : Register V). W x (set (G x) i (f x (suc i) (getD (G x) i d)))) inv ∙ same (upto (one-more (f r) d) i (G r)) (turns-later (f r) d i i (G r) d (omega arith))))
 
   -- all of them

@@ -3,16 +3,16 @@ ghost use Rattle.rules.specs.Contents.{Same};
 ghost use Rattle.rules.specs.Performing.{Inserted, withBook};
 ghost use Rattle.admission.specs.Lent.{registerOf, MayGoOn};
 ghost use Rattle.endings.specs.Endings.{endedAt, MayEnd, AbandonedAt};
-use admission::looking::closed_record;
-use admission::looking::record_of;
-use admission::looking::row;
-use admission::numbered::Crew;
-use choosers::chooser::Chooser;
 use crate::book::insert;
 use crate::closing::clear_row;
 use crate::closing::count_ended;
 use crate::closing::put_record;
 use crate::reads::raise_reads;
+use admission::looking::closed_record;
+use admission::looking::record_of;
+use admission::looking::row;
+use admission::numbered::Crew;
+use choosers::chooser::Chooser;
 use rules::head::Started;
 use rules::tables::Tables;
 use terms::numbers::CrewNumber;
@@ -35,7 +35,12 @@ pub fn end_job<V>(head: &mut Started, t: &mut Tables<'_, V>, crew: Crew, last: E
 }
 
 // Abandons a crew's job at the place that the chooser gives between the job's bounds, and answers the place.
-pub fn abandon_job<V, C: Chooser>(head: &mut Started, t: &mut Tables<'_, V>, chooser: &mut C, crew: Crew) -> Place
+pub fn abandon_job<V, C: Chooser>(
+    head: &mut Started,
+    t: &mut Tables<'_, V>,
+    chooser: &mut C,
+    crew: Crew,
+) -> Place
     ensures same { λ _. ⌜ Same V (now (t .exit)) (now (t .entry)) ⌝ }
     ensures abandoned { λ r. ⌜ (MayGoOn {V = V} (registerOf V (now (head .entry)) (now (t .entry))) (crew .number) → AbandonedAt {V = V} (registerOf V (now (head .entry)) (now (t .entry))) (C·Chooser .meaning (now (chooser .entry))) (crew .number) (r .0) (registerOf V (now (head .exit)) (now (t .exit))) (C·Chooser .meaning (now (chooser .exit)))) ⌝ }
 {

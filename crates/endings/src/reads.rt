@@ -20,7 +20,11 @@ fn raise_read<V>(head: &Started, t: &mut Tables<'_, V>, crew: Crew, place: Place
         (set (now (now (t .entry) .read)) i (raisedRead {V = V} (crew .number) (place .0) (registerOf V (now (head .entry)) (now (t .entry))) (suc i) (getD (now (now (t .entry) .read)) i 0))) ⌝ }
 {
     let old = t.read[i];
-    t.read[i] = if has_read(head, t, crew, i) { larger(old, place.0) } else { old };
+    t.read[i] = if has_read(head, t, crew, i) {
+        larger(old, place.0)
+    } else {
+        old
+    };
 }
 
 // The read place of each cell that the crew's job has read first-hand is raised to the job's place at least.

@@ -1,1 +1,2 @@
 mod Looked
+mod Committed

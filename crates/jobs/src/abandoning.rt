@@ -12,7 +12,12 @@ use terms::numbers::CrewNumber;
 use terms::refusals::Refusal;
 
 // Ends the job between its bounds as they stand, and lets its values go.
-pub fn abandon<V: Copy, C: Chooser>(head: &mut Started, t: &mut Tables<'_, V>, chooser: &mut C, crew: CrewNumber) -> Result<Answer<V>, Refusal>
+pub fn abandon<V: Copy, C: Chooser>(
+    head: &mut Started,
+    t: &mut Tables<'_, V>,
+    chooser: &mut C,
+    crew: CrewNumber,
+) -> Result<Answer<V>, Refusal>
     ensures same { λ _. ⌜ Same V (now (t .exit)) (now (t .entry)) ⌝ }
     ensures performed { λ r. ⌜ CallPerformed V (now (head .entry)) (now (t .entry)) (C·Chooser .meaning (now (chooser .entry))) (Abandoning crew) r (now (head .exit)) (now (t .exit)) (C·Chooser .meaning (now (chooser .exit))) ⌝ }
 {

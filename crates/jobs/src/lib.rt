@@ -1,5 +1,6 @@
 // The five job calls.
 pub mod abandoning;
+pub mod committing;
 pub mod opening;
 pub mod reading;
 pub mod writing;

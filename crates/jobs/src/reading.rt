@@ -28,7 +28,11 @@ fn look_up<'b, V>(t: &'b Tables<'_, V>, own: bool, spot: usize, i: usize) -> &'b
     ensures one { λ r. ⌜ length (now r) ≡ 1 ⌝ }
     ensures shows { λ r. ⌜ ((d : V) → getD (now r) 0 d ≡ cond own (getD (now (now (t .entry) .own)) spot d) (getD (now (now (t .entry) .values)) i d)) ⌝ }
 {
-    if own { &t.own[spot..spot + 1] } else { &t.values[i..i + 1] }
+    if own {
+        &t.own[spot..spot + 1]
+    } else {
+        &t.values[i..i + 1]
+    }
 }
 
 // The value that a read tells.
@@ -41,7 +45,13 @@ fn told<V: Copy>(t: &Tables<'_, V>, own: bool, spot: usize, i: usize) -> V
 
 // Tells the job's own value where it has written the cell. Else tells the cell's value: it is now read first-hand, and
 // the job's place will lie above the cell's written place; where that leaves no place the read is stale and ends the job.
-pub fn read<V: Copy, C: Chooser>(head: &mut Started, t: &mut Tables<'_, V>, chooser: &mut C, crew: CrewNumber, cell: CellNumber) -> Result<Answer<V>, Refusal>
+pub fn read<V: Copy, C: Chooser>(
+    head: &mut Started,
+    t: &mut Tables<'_, V>,
+    chooser: &mut C,
+    crew: CrewNumber,
+    cell: CellNumber,
+) -> Result<Answer<V>, Refusal>
     ensures same { λ _. ⌜ Same V (now (t .exit)) (now (t .entry)) ⌝ }
     ensures performed { λ r. ⌜ CallPerformed V (now (head .entry)) (now (t .entry)) (C·Chooser .meaning (now (chooser .entry))) (Reading crew cell) r (now (head .exit)) (now (t .exit)) (C·Chooser .meaning (now (chooser .exit))) ⌝ }
 {
