@@ -2,5 +2,6 @@
 pub mod abandoning;
 pub mod committing;
 pub mod opening;
+pub mod performing;
 pub mod reading;
 pub mod writing;
