@@ -1,4 +1,5 @@
 // Numbers by chance, the same for the same seed.
+#[derive(Drop)]
 pub struct Draws {
     pub state: u32,
 }

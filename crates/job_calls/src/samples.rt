@@ -9,7 +9,7 @@ use values::records::Card;
 use values::records::Dial;
 
 // A kind whose values can be had by chance.
-pub trait Sample: Kind + Drop {
+pub trait Sample: Kind + Clone + Drop {
     fn sample(draws: &mut Draws) -> Self;
 }
 
