@@ -5,7 +5,7 @@ use Rattle.rules.specs.Making.{JustStarted}
 use Rattle.rules.specs.Registers.{Register}
 use Rattle.rules.specs.Runs.{Step, Performed}
 use Rattle.guarantee.specs.Opacity.{Explained}
-use Rattle.guarantee.specs.Promise.{AtEveryMoment, Promise, PromiseIsKept}
+use Rattle.guarantee.specs.Promise.{AtEveryMoment, Promise, PromiseFromStart, PromiseIsKept}
 use Rattle.guarantee.proofs.Opacity.{every-run-is-opaque}
 use Rattle.guarantee.proofs.Permissiveness.{performed-run, register-is-permissive}
 
@@ -22,3 +22,7 @@ promise-is-kept V d s f₀ log r f ke p = record {
   opaque = λ j. moments-explained d s f₀ j ke p;
   permissive = λ j. register-is-permissive V d s j;
 }
+
+pub from-start : {V : Type 0} (d : V) (s : Register V) (f₀ : Meaning) (log : List (Step V)) (r : Register V) (f : Meaning)
+    → JustStarted (s .head) (s .tables) → Promise d s f₀ log r f → PromiseFromStart d s f₀ log r f
+from-start d s f₀ log r f j p = record { just-started = j; performed = p .performed; opaque = p .opaque j; permissive = p .permissive j }

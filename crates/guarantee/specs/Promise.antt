@@ -29,3 +29,10 @@ pub record Promise {V : Type 0} (d : V) (s : Register V) (f₀ : Meaning) (log :
 -- the promise is kept by whatever calls were performed by the rules, with every chooser that keeps the law
 abbrev pub PromiseIsKept : Type 0 → Type 0
 PromiseIsKept V = (d : V) (s : Register V) (f₀ : Meaning) (log : List (Step V)) (r : Register V) (f : Meaning) → KeepsLaw f₀ → Performed d s f₀ log r f → Promise d s f₀ log r f
+
+-- the same of a register that was just started, with nothing left to show
+pub record PromiseFromStart {V : Type 0} (d : V) (s : Register V) (f₀ : Meaning) (log : List (Step V)) (r : Register V) (f : Meaning) : Type 0 where
+  pub just-started : JustStarted (s .head) (s .tables)
+  pub performed : Performed d s f₀ log r f
+  pub opaque : AtEveryMoment (Explained d s) performed
+  pub permissive : (ks : List (Call V)) → WellMadeCalls (s .head .sizes) ks → IsPermissive d s ks

@@ -175,7 +175,7 @@ module _ {A : Type 0} (f : ℕ → A → A) (d : A) where
   turns-length zero xs = refl
   turns-length (suc i) xs = length-set (upto one-more i xs) i (f (suc i) (getD (upto one-more i xs) i d)) ∙ turns-length i xs
 
-  turns-later : (i j : ℕ) (xs : List A) (e : A) → i ≤ j → getD (upto one-more i xs) j e ≡ getD xs j e
+  pub turns-later : (i j : ℕ) (xs : List A) (e : A) → i ≤ j → getD (upto one-more i xs) j e ≡ getD xs j e
   turns-later zero j xs e l = refl
   turns-later (suc i) j xs e l = getD-set-other (upto one-more i xs) i j (f (suc i) (getD (upto one-more i xs) i d)) e (λ q. omega arith) ∙ turns-later i j xs e (omega arith)
 

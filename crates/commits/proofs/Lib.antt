@@ -1,0 +1,3 @@
+mod Looping
+mod LoweredHighs
+mod Stored

@@ -1,0 +1,2 @@
+mod Looked
+mod Committed
