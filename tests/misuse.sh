@@ -31,24 +31,21 @@ copy_crate() {
 }
 
 # Writes a crate that uses a register rightly but for two lines: one before the start, one after it.
-# The call that opens a job is not there yet: `open_job` stands for it, and like it takes the head of a started register.
 write_crate() {
     mkdir -p "$scratch/crates/$1/src"
-    echo "$1: terms rules register" >>"$scratch/crates.txt"
+    echo "$1: terms choosers rules register jobs" >>"$scratch/crates.txt"
     cat >"$scratch/crates/$1/src/lib.rt" <<RATTLE
+use choosers::chooser::Chooser;
+use jobs::opening::open;
 use register::making::fill;
 use register::making::start;
 use rules::head::Filling;
-use rules::head::Started;
 use rules::sizes::Sizes;
 use rules::tables::Tables;
+use terms::numbers::CrewNumber;
 use terms::refusals::Refusal;
 
-fn open_job(head: &mut Started) {
-    head.active = head.active;
-}
-
-pub fn use_register(sizes: Sizes, t: &mut Tables<'_, u64>) -> Result<(), Refusal> {
+pub fn use_register<C: Chooser>(sizes: Sizes, t: &mut Tables<'_, u64>, chooser: &mut C) -> Result<(), Refusal> {
     let mut head = Filling::new(sizes);
     fill(&mut head, t, 7)?;
     $2
@@ -56,7 +53,7 @@ pub fn use_register(sizes: Sizes, t: &mut Tables<'_, u64>) -> Result<(), Refusal
         return Err(Refusal::NotFilled);
     };
     $3
-    open_job(&mut started);
+    let _ = open(&mut started, t, chooser, CrewNumber(1));
     Ok(())
 }
 RATTLE
@@ -85,7 +82,7 @@ must_be_refused() {
 }
 
 mkdir -p "$scratch/crates" "$scratch/target/rlib" "$scratch/target/stamp"
-for crate in $(with_dependencies register | awk '!seen[$0]++'); do
+for crate in $(with_dependencies jobs | awk '!seen[$0]++'); do
     copy_crate "$crate"
 done
 
@@ -101,6 +98,6 @@ misuse='fill(&mut started, t, 8)?;'
 write_crate fill_of_started '' "$misuse"
 must_be_refused fill_of_started "$misuse" 'error[mismatched-types]: expected `&mut Filling`, found `&mut Started`'
 
-misuse='open_job(&mut head);'
+misuse='open(&mut head, t, chooser, CrewNumber(1))?;'
 write_crate open_before_start "$misuse" ''
 must_be_refused open_before_start "$misuse" 'error[mismatched-types]: expected `&mut Started`, found `&mut Filling`'

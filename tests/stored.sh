@@ -12,4 +12,5 @@ python3 tests/make_cases.py --check "$work"
 cmp "$work/stdin" crates/schedule_cases/stdin
 cmp "$work/stdout" crates/schedule_cases/stdout
 python3 tests/account.py 65536 <crates/daybook/stdin | cmp - crates/daybook/stdout
+python3 tests/job_calls.py | cmp - crates/job_calls/stdout
 echo 'stored.sh: the stored accounts are as worked out'
