@@ -1,3 +1,2 @@
-mod Looping
 mod LoweredHighs
 mod Stored

@@ -2,13 +2,13 @@
 use mathlib.Core.Path.{_≡_}
 use mathlib.Core.List.{List, []}
 use mathlib.Core.Bool.{cond}
-use Prim.Native.Nat.{ℕ, _+_, _≤_, max}
+use Prim.Native.Nat.{ℕ, _+_, _≤_}
 use Rattle.std.specs.declared.option.Option.the-variants.{Some}
 use Rattle.terms.specs.declared.records.JobRecord.{JobRecord}
 use Rattle.terms.specs.declared.records.Ending.the-variants.{Committed}
 use Rattle.choosers.specs.Meaning.{Meaning}
-use Rattle.rules.specs.Tables.{at, each}
-use Rattle.rules.specs.Registers.{Register, lowOf, highOf, hasWritten, ownOf}
+use Rattle.rules.specs.Tables.{each}
+use Rattle.rules.specs.Registers.{Register, highOf, hasWritten, ownOf}
 use Rattle.rules.specs.JobCalls.{otherReader, lowered, commitLow, entryOf}
 use Rattle.rules.specs.Performing.{Inserted, movedIf, withBook}
 use Rattle.admission.specs.Lent.{MayGoOn}
@@ -44,16 +44,6 @@ writtenPlace w p r c x = cond (hasWritten r w c) p x
 
 abbrev pub loweredRecord : {V : Type 0} → ℕ → ℕ → Register V → ℕ → JobRecord → JobRecord
 loweredRecord w p r u j = cond (otherReader r w u) (lowered p j) j
-
----- What the place of crew w's commit must lie above
-
--- for cell c
-abbrev pub cellBound : {V : Type 0} → Register V → ℕ → ℕ → ℕ
-cellBound r w c = cond (hasWritten r w c) (max (at (r .tables .written) c 0) (at (r .tables .read) c 0)) 0
-
--- for the job of crew u
-abbrev pub readerBound : {V : Type 0} → Register V → ℕ → ℕ → ℕ
-readerBound r w u = cond (otherReader r w u) (lowOf r u + 1) 0
 
 ---- The whole
 

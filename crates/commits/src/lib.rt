@@ -1,6 +1,5 @@
-// What a commit does besides what every ending does: its lower bound, the values, the written places, and the highs of
+// What a commit does besides what every ending does: the values, the written places, and the highs of
 // the jobs that have read what it overwrites.
-pub mod bounds;
 pub mod committing;
 pub mod lowering;
 pub mod storing;

@@ -7,7 +7,7 @@ ghost use Rattle.admission.specs.Lent.{registerOf};
 ghost use Rattle.commits.specs.Committing.{withJobs, loweredRecord};
 use admission::looking::record_of;
 use admission::numbered::Crew;
-use crate::bounds::is_other_reader;
+use bounds::readers::is_other_reader;
 use endings::closing::put_record;
 use rules::head::Started;
 use rules::tables::Tables;

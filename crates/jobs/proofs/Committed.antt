@@ -28,10 +28,10 @@ use Rattle.commits.specs.Committing.{storedAt, CommittedAt}
 
 module _ {V : Type 0} (d : V) (r r′ : Register V) (f f′ : Meaning) (crew : CrewNumber) (p : Place) (none : None ≡ firstRefusal (jobTests r false (crew .0))) where
   turned : (b : Bool) → ltb (highOf r (crew .0)) (commitLow r (crew .0) + 2) ≡ b
-    → outcome d (f []) r (Commit crew) ≡ cond b (abandonOutcome (f []) r (crew .0) (λ q. Err (NoPlace q))) (committedAt d r (crew .0) (f [] (commitLow r (crew .0)) (highOf r (crew .0))))
+      → outcome d (f []) r (Commit crew) ≡ cond b (abandonOutcome (f []) r (crew .0) (λ q. Err (NoPlace q))) (committedAt d r (crew .0) (f [] (commitLow r (crew .0)) (highOf r (crew .0))))
   turned b e =
-    ap (λ (x : Option Refusal). ifRefused x (λ e. refused e r) (commitOutcome d (f []) r (crew .0))) (sym none)
-    ∙ ap (λ (t : Bool). cond t (abandonOutcome (f []) r (crew .0) (λ q. Err (NoPlace q))) (committedAt d r (crew .0) (f [] (commitLow r (crew .0)) (highOf r (crew .0))))) e
+      ap (λ (x : Option Refusal). ifRefused x (λ e. refused e r) (commitOutcome d (f []) r (crew .0))) (sym none)
+      ∙ ap (λ (t : Bool). cond t (abandonOutcome (f []) r (crew .0) (λ q. Err (NoPlace q))) (committedAt d r (crew .0) (f [] (commitLow r (crew .0)) (highOf r (crew .0))))) e
 
   pub commit-abandons : highOf r (crew .0) < commitLow r (crew .0) + 2 → AbandonedAt r f (crew .0) (p .0) r′ f′ → Performs d r f (Commit crew) (Err (NoPlace p)) r′ f′
   commit-abandons l g = let o = turned true (lt-ltb _ _ l) in record {

@@ -4,8 +4,8 @@ ghost use Rattle.rules.specs.Contents.{Same};
 ghost use Rattle.admission.specs.Lent.{CallPerformed};
 use admission::looking::record_of;
 use admission::refusing::admit;
+use bounds::low::commit_low;
 use choosers::chooser::Chooser;
-use commits::bounds::commit_low;
 use commits::committing::commit_job;
 use endings::ending::abandon_job;
 use rules::calls::Answer;
@@ -17,7 +17,12 @@ use terms::refusals::Refusal;
 
 // Ends the job above everything that its values must follow, and stores them; where no place is left there, the job ends
 // as abandon ends it.
-pub fn commit<V: Copy, C: Chooser>(head: &mut Started, t: &mut Tables<'_, V>, chooser: &mut C, crew: CrewNumber) -> Result<Answer<V>, Refusal>
+pub fn commit<V: Copy, C: Chooser>(
+    head: &mut Started,
+    t: &mut Tables<'_, V>,
+    chooser: &mut C,
+    crew: CrewNumber,
+) -> Result<Answer<V>, Refusal>
     ensures same { λ _. ⌜ Same V (now (t .exit)) (now (t .entry)) ⌝ }
     ensures performed { λ r. ⌜ CallPerformed V (now (head .entry)) (now (t .entry)) (C·Chooser .meaning (now (chooser .entry))) (Committing crew) r (now (head .exit)) (now (t .exit)) (C·Chooser .meaning (now (chooser .exit))) ⌝ }
 {

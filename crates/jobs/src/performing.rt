@@ -1,12 +1,12 @@
 ghost use mathlib.Core.Path.{_≡_};
 ghost use Rattle.rules.specs.Contents.{Same};
 ghost use Rattle.admission.specs.Lent.{CallPerformed};
-use choosers::chooser::Chooser;
 use crate::abandoning::abandon;
 use crate::committing::commit;
 use crate::opening::open;
 use crate::reading::read;
 use crate::writing::write;
+use choosers::chooser::Chooser;
 use rules::calls::Answer;
 use rules::calls::Call;
 use rules::head::Started;
@@ -14,7 +14,12 @@ use rules::tables::Tables;
 use terms::refusals::Refusal;
 
 // Makes any job call.
-pub fn perform<V: Copy, C: Chooser>(head: &mut Started, t: &mut Tables<'_, V>, chooser: &mut C, call: Call<V>) -> Result<Answer<V>, Refusal>
+pub fn perform<V: Copy, C: Chooser>(
+    head: &mut Started,
+    t: &mut Tables<'_, V>,
+    chooser: &mut C,
+    call: Call<V>,
+) -> Result<Answer<V>, Refusal>
     ensures same { λ _. ⌜ Same V (now (t .exit)) (now (t .entry)) ⌝ }
     ensures performed { λ r. ⌜ CallPerformed V (now (head .entry)) (now (t .entry)) (C·Chooser .meaning (now (chooser .entry))) call r (now (head .exit)) (now (t .exit)) (C·Chooser .meaning (now (chooser .exit))) ⌝ }
 {

@@ -7,4 +7,4 @@ use Rattle.commits.proofs.lowering.lower_highs.Given as given
 
 abbrev pub Inv-loop-i : given.InvT-loop-i
 Inv-loop-i g l = Same _ (l .t) (l .entry .t) ×
-  (registerOf _ (l .head) (l .t) ≡ withJobs (registerOf _ (l .head) (l .entry .t)) (upto (one-more (loweredRecord (l .crew .number) (l .place .0) (registerOf _ (l .head) (l .entry .t))) closedRecord) (l .i) (l .entry .t .jobs .now)))
+    (registerOf _ (l .head) (l .t) ≡ withJobs (registerOf _ (l .head) (l .entry .t)) (upto (one-more (loweredRecord (l .crew .number) (l .place .0) (registerOf _ (l .head) (l .entry .t))) closedRecord) (l .i) (l .entry .t .jobs .now)))

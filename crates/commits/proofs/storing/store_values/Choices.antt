@@ -8,4 +8,4 @@ use Rattle.commits.proofs.storing.store_values.Given as given
 
 abbrev pub Inv-loop-i : given.InvT-loop-i
 Inv-loop-i g l = Same _ (l .t) (l .entry .t) ×
-  (AllFit (registerOf _ (l .head) (l .entry .t)) → l .crew .number ≤ l .head .sizes .crews → (d : _) → registerOf _ (l .head) (l .t) ≡ withValues (registerOf _ (l .head) (l .entry .t)) (upto (one-more (storedValue d (l .crew .number) (registerOf _ (l .head) (l .entry .t))) d) (l .i) (l .entry .t .values .now)))
+    (AllFit (registerOf _ (l .head) (l .entry .t)) → l .crew .number ≤ l .head .sizes .crews → (d : _) → registerOf _ (l .head) (l .t) ≡ withValues (registerOf _ (l .head) (l .entry .t)) (upto (one-more (storedValue d (l .crew .number) (registerOf _ (l .head) (l .entry .t))) d) (l .i) (l .entry .t .values .now)))

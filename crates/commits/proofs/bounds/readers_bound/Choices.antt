@@ -1,8 +1,0 @@
-use mathlib.Core.Path.{_≡_}
-use Rattle.rules.specs.Tables.{most}
-use Rattle.admission.specs.Lent.{registerOf}
-use Rattle.commits.specs.Committing.{readerBound}
-use Rattle.commits.proofs.bounds.readers_bound.Given as given
-
-abbrev pub Inv-loop-i : given.InvT-loop-i
-Inv-loop-i g l = l .bound ≡ most (readerBound (registerOf _ (l .head) (l .t)) (l .crew .number)) (l .i)
