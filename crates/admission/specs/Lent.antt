@@ -16,12 +16,9 @@ use Rattle.rules.specs.Limits.{top}
 use Rattle.rules.specs.Heads.{startedOf}
 use Rattle.rules.specs.Contents.{contentsOf, Fits}
 use Rattle.rules.specs.Refusing.{Tests, sizeTests}
-use Rattle.rules.specs.Registers.{Register, lowOf, highOf}
+use Rattle.rules.specs.Registers.{registerOf, Register, lowOf, highOf}
 use Rattle.rules.specs.JobCalls.{callTests}
 use Rattle.rules.specs.Performing.{Performs}
-
-abbrev pub registerOf : (V : Type 0) → Started → Tables V → Register V
-registerOf V head t = record { head = startedOf head; tables = contentsOf V t }
 
 -- every table has the length that the head says
 abbrev pub AllFit : {V : Type 0} → Register V → Type 0

@@ -10,9 +10,9 @@ ghost use Rattle.rules.specs.declared.calls.Call.the-variants.{Open as Opening}
 ghost use Rattle.rules.specs.Limits.{top};
 ghost use Rattle.rules.specs.Refusing.{firstRefusal};
 ghost use Rattle.rules.specs.Tables.{outside};
-ghost use Rattle.rules.specs.Registers.{hasJob, lowOf, highOf};
+ghost use Rattle.rules.specs.Registers.{hasJob, lowOf, highOf, registerOf};
 ghost use Rattle.rules.specs.JobCalls.{damaged as isDamaged, callTests, testsOf};
-ghost use Rattle.admission.specs.Lent.{registerOf, AllFit, refusalIn, jobTests, MayOpen, MayGoOn};
+ghost use Rattle.admission.specs.Lent.{AllFit, refusalIn, jobTests, MayOpen, MayGoOn};
 use crate::looking::is_open;
 use crate::looking::record_of;
 use crate::numbered::Cell;

@@ -1,7 +1,7 @@
 ghost use mathlib.Core.Path.{_≡_};
 ghost use Prim.Native.Nat.{_+_};
 ghost use Rattle.rules.specs.Tables.{at, most};
-ghost use Rattle.admission.specs.Lent.{registerOf};
+ghost use Rattle.rules.specs.Registers.{registerOf};
 ghost use Rattle.bounds.specs.Bounds.{cellBound};
 use admission::looking::has_written;
 use admission::looking::larger;

@@ -1,6 +1,6 @@
 ghost use mathlib.Core.Path.{_≡_};
 ghost use Rattle.rules.specs.JobCalls.{commitLow};
-ghost use Rattle.admission.specs.Lent.{registerOf};
+ghost use Rattle.rules.specs.Registers.{registerOf};
 use crate::cells::cells_bound;
 use crate::readers::larger_bound;
 use crate::readers::readers_bound;

@@ -2,7 +2,7 @@ ghost use mathlib.Core.Path.{_≡_};
 ghost use Prim.Native.Nat.{_+_, max};
 ghost use Rattle.rules.specs.Tables.{most};
 ghost use Rattle.rules.specs.JobCalls.{touches as Touches, otherReader};
-ghost use Rattle.admission.specs.Lent.{registerOf};
+ghost use Rattle.rules.specs.Registers.{registerOf};
 ghost use Rattle.bounds.specs.Bounds.{readerBound};
 use admission::looking::has_read;
 use admission::looking::has_written;

@@ -2,7 +2,7 @@ ghost use mathlib.Core.Path.{_≡_};
 ghost use mathlib.Core.List.{[]};
 ghost use Rattle.choosers.specs.Meaning.{movedOn};
 ghost use Rattle.rules.specs.Contents.{Same};
-ghost use Rattle.admission.specs.Lent.{registerOf};
+ghost use Rattle.rules.specs.Registers.{registerOf};
 ghost use Rattle.commits.specs.Committing.{MayCommit, CommittedAt};
 use crate::lowering::lower_highs;
 use crate::storing::set_written_places;

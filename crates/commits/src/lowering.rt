@@ -3,7 +3,7 @@ ghost use Prim.Native.Nat.{ℕ, suc, _<_, _≤_};
 ghost use lib.ListN.{length, getD, set};
 ghost use Rattle.rules.specs.Contents.{Same, closedRecord};
 ghost use Rattle.rules.specs.Tables.{each};
-ghost use Rattle.admission.specs.Lent.{registerOf};
+ghost use Rattle.rules.specs.Registers.{registerOf};
 ghost use Rattle.commits.specs.Committing.{withJobs, loweredRecord};
 use admission::looking::record_of;
 use admission::numbered::Crew;

@@ -1,7 +1,8 @@
 ghost use mathlib.Core.Path.{_≡_};
 ghost use Rattle.rules.specs.Contents.{Same};
 ghost use Rattle.rules.specs.Performing.{Inserted, withBook};
-ghost use Rattle.admission.specs.Lent.{registerOf, MayGoOn};
+ghost use Rattle.rules.specs.Registers.{registerOf};
+ghost use Rattle.admission.specs.Lent.{MayGoOn};
 ghost use Rattle.endings.specs.Endings.{endedAt, MayEnd, AbandonedAt};
 use crate::book::insert;
 use crate::closing::clear_row;

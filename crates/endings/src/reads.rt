@@ -3,7 +3,7 @@ ghost use Prim.Native.Nat.{ℕ, suc, _<_};
 ghost use lib.ListN.{length, getD, set};
 ghost use Rattle.rules.specs.Contents.{Same};
 ghost use Rattle.rules.specs.JobCalls.{raisedReads};
-ghost use Rattle.admission.specs.Lent.{registerOf};
+ghost use Rattle.rules.specs.Registers.{registerOf};
 ghost use Rattle.endings.specs.Endings.{withReads, raisedRead};
 use admission::looking::has_read;
 use admission::looking::larger;

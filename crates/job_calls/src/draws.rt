@@ -7,7 +7,9 @@ pub struct Draws {
 impl Draws {
     // A number from `low` on, one of 64 at most.
     pub fn draw(&mut self, low: u64, count: u8) -> u64 {
-        self.state = self.state.wrapping_mul(1_664_525).wrapping_add(1_013_904_223);
+        self.state = self.state
+            .wrapping_mul(1_664_525)
+            .wrapping_add(1_013_904_223);
         let drawn = (self.state >> 16) as u64;
         if count == 0 {
             return low;

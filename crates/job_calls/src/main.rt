@@ -41,9 +41,19 @@ const ENTRIES: usize = 24;
 
 const CALLS: usize = 240;
 
-const ANY_JOB: JobRecord = JobRecord { standing: Standing::Open, job: JobNumber(9), low: Place(9), high: Place(9) };
+const ANY_JOB: JobRecord = JobRecord {
+    standing: Standing::Open,
+    job: JobNumber(9),
+    low: Place(9),
+    high: Place(9),
+};
 
-const ANY_ENTRY: Entry = Entry { job: JobNumber(9), crew: CrewNumber(9), place: Place(9), ending: Ending::Committed };
+const ANY_ENTRY: Entry = Entry {
+    job: JobNumber(9),
+    crew: CrewNumber(9),
+    place: Place(9),
+    ending: Ending::Committed,
+};
 
 // Fills a register with these first values, starts it, makes the calls of a list on it, and prints each call with its
 // answer, then the cells and the day book.
@@ -72,7 +82,12 @@ fn print_run<K: Sample, C: Chooser>(
 }
 
 // Draws first values and calls by chance, and prints what becomes of them. The tables hold anything before the start.
-fn account<K: Sample, C: Chooser>(rt: &LibcRuntime, title: &str, seed: u32, chooser: &mut C) -> io::Result<()> {
+fn account<K: Sample, C: Chooser>(
+    rt: &LibcRuntime,
+    title: &str,
+    seed: u32,
+    chooser: &mut C,
+) -> io::Result<()> {
     println!(rt, "{title}")?;
     let mut draws = Draws { state: seed };
     let mut first = Vec::new(rt.alloc());
@@ -81,7 +96,10 @@ fn account<K: Sample, C: Chooser>(rt: &LibcRuntime, title: &str, seed: u32, choo
     }
     let mut list = Vec::new(rt.alloc());
     for _ in 0..CALLS {
-        list.push(Exchange { call: call_by_chance::<K>(&mut draws), answer: Err(Refusal::NotFilled) })?;
+        list.push(Exchange {
+            call: call_by_chance::<K>(&mut draws),
+            answer: Err(Refusal::NotFilled),
+        })?;
     }
     let mut values = vec![in rt.alloc(); K::blank(); CELLS]?;
     let mut written = vec![in rt.alloc(); 7; CELLS]?;
@@ -97,12 +115,25 @@ fn account<K: Sample, C: Chooser>(rt: &LibcRuntime, title: &str, seed: u32, choo
     let own = own.as_mut_slice();
     let flags = flags.as_mut_slice();
     let book = book.as_mut_slice();
-    let mut t = Tables { values, written, read, jobs, own, flags, book };
+    let mut t = Tables {
+        values,
+        written,
+        read,
+        jobs,
+        own,
+        flags,
+        book,
+    };
     print_run(rt, first.as_slice(), &mut t, chooser, list.as_mut_slice())
 }
 
 // The same with a stride of this step.
-fn account_by_stride<K: Sample>(rt: &LibcRuntime, title: &str, seed: u32, step: u64) -> io::Result<()> {
+fn account_by_stride<K: Sample>(
+    rt: &LibcRuntime,
+    title: &str,
+    seed: u32,
+    step: u64,
+) -> io::Result<()> {
     match Stride::new(step) {
         Ok(stride) => {
             let mut chooser = stride;
@@ -113,7 +144,26 @@ fn account_by_stride<K: Sample>(rt: &LibcRuntime, title: &str, seed: u32, step: 
 }
 
 fn main(rt: LibcRuntime) -> io::Result<()> {
-    let numbers = [40, 30, 20, 10, 35, 25, 15, 5, 60, 55, 58, 57, 90, 80, 70, 85, 75, 100];
+    let numbers = [
+        40,
+        30,
+        20,
+        10,
+        35,
+        25,
+        15,
+        5,
+        60,
+        55,
+        58,
+        57,
+        90,
+        80,
+        70,
+        85,
+        75,
+        100,
+    ];
     let mut script = Script::new(&numbers);
     account_by_stride::<Dial>(&rt, "dials, stride 8", 1, 8)?;
     account::<Dial, Script>(&rt, "dials, script", 2, &mut script)?;

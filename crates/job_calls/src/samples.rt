@@ -2,9 +2,9 @@ use crate::draws::Draws;
 use rules::calls::Call;
 use terms::numbers::CellNumber;
 use terms::numbers::CrewNumber;
-use values::kinds::Kind;
 use values::kinds::CardKind;
 use values::kinds::DialKind;
+use values::kinds::Kind;
 use values::records::Card;
 use values::records::Dial;
 
@@ -18,13 +18,19 @@ pub impl Sample for Card as CardSample {
         let serial = (draws.draw(1, 99) & 0xff) as u32;
         let litres = (draws.draw(0, 200) & 0xff) as u32;
         let gateway = (draws.draw(1, 9) & 0xff) as u16;
-        Card { serial, litres, gateway }
+        Card {
+            serial,
+            litres,
+            gateway,
+        }
     }
 }
 
 pub impl Sample for Dial as DialSample {
     fn sample(draws: &mut Draws) -> Dial {
-        Dial { number: (draws.draw(0, 200) & 0xff) as u32 }
+        Dial {
+            number: (draws.draw(0, 200) & 0xff) as u32,
+        }
     }
 }
 

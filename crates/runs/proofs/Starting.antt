@@ -14,9 +14,9 @@ use Rattle.rules.specs.Registers.{Register}
 use Rattle.runs.specs.Starting.{startedRegister}
 
 by-tests : {V : Type 0} (o : Option Refusal) (head : FillingHead) (t : Contents V) (h : StartedHead) (t′ : Contents V)
-  → _≡_ {A = StartOutcome V} (record { answer = Ok h; contents = t′ })
-      (ifRefused o (λ e. record { answer = Err (head, e); contents = t }) (record { answer = Ok (freshHead (head .sizes)); contents = freshContents (head .sizes) t }))
-  → (h ≡ freshHead (head .sizes)) × (t′ ≡ freshContents (head .sizes) t)
+    → _≡_ {A = StartOutcome V} (record { answer = Ok h; contents = t′ })
+    (ifRefused o (λ e. record { answer = Err (head, e); contents = t }) (record { answer = Ok (freshHead (head .sizes)); contents = freshContents (head .sizes) t }))
+    → (h ≡ freshHead (head .sizes)) × (t′ ≡ freshContents (head .sizes) t)
 by-tests {V} None head t h t′ e =
     let a : _≡_ {A = StartAnswer} (Ok h) (Ok (freshHead (head .sizes))) = ap (λ (q : StartOutcome V). q .answer) e in
     (cc, ap (λ (q : StartOutcome V). q .contents) e)
@@ -25,7 +25,7 @@ by-tests {V} (Some r) head t h t′ e =
 
 -- the register that an accepted start leaves
 pub started-is : {V : Type 0} (head : FillingHead) (t : Contents V) (h : StartedHead) (t′ : Contents V)
-  → _≡_ {A = StartOutcome V} (record { answer = Ok h; contents = t′ }) (startOutcome head t) → _≡_ {A = Register V} (record { head = h; tables = t′ }) (startedRegister head t)
+    → _≡_ {A = StartOutcome V} (record { answer = Ok h; contents = t′ }) (startOutcome head t) → _≡_ {A = Register V} (record { head = h; tables = t′ }) (startedRegister head t)
 started-is {V} head t h t′ e =
     let p = by-tests (firstRefusal (startTests head t)) head t h t′ e in
     ap (λ (q : StartedHead). record { head = q; tables = t′ }) (p .0) ∙ ap (λ (q : Contents V). record { head = freshHead (head .sizes); tables = q }) (p .1)

@@ -17,7 +17,12 @@ use rules::tables::Tables;
 use terms::refusals::Refusal;
 
 // Makes each call of a list in turn, on what the one before it left, and stores its answer beside it.
-pub fn run<V: Copy, C: Chooser>(head: &mut Started, t: &mut Tables<'_, V>, chooser: &mut C, list: &mut [Exchange<V>])
+pub fn run<V: Copy, C: Chooser>(
+    head: &mut Started,
+    t: &mut Tables<'_, V>,
+    chooser: &mut C,
+    list: &mut [Exchange<V>],
+)
     ensures same { λ _. ⌜ Same V (now (t .exit)) (now (t .entry)) ⌝ }
     ensures calls { λ _. ⌜ callsOf (now (list .exit)) ≡ callsOf (now (list .entry)) ⌝ }
     ensures promise { λ _. ⌜ ((d : V) → Promise d (registerOf V (now (head .entry)) (now (t .entry))) (C·Chooser .meaning (now (chooser .entry))) (logOf (now (list .exit))) (registerOf V (now (head .exit)) (now (t .exit))) (C·Chooser .meaning (now (chooser .exit)))) ⌝ }
@@ -28,7 +33,12 @@ pub fn run<V: Copy, C: Chooser>(head: &mut Started, t: &mut Tables<'_, V>, choos
 }
 
 // Starts a register and makes a list of calls on it. A refused start hands the head back, and no call is made.
-pub fn start_and_run<V: Copy, C: Chooser>(head: Filling, t: &mut Tables<'_, V>, chooser: &mut C, list: &mut [Exchange<V>]) -> Result<Started, (Filling, Refusal)>
+pub fn start_and_run<V: Copy, C: Chooser>(
+    head: Filling,
+    t: &mut Tables<'_, V>,
+    chooser: &mut C,
+    list: &mut [Exchange<V>],
+) -> Result<Started, (Filling, Refusal)>
     ensures same { λ _. ⌜ Same V (now (t .exit)) (now (t .entry)) ⌝ }
     ensures calls { λ _. ⌜ callsOf (now (list .exit)) ≡ callsOf (now (list .entry)) ⌝ }
     ensures kept { λ r. ⌜ elim r [ Ok started ↦ (startOutcome {V = V} (fillingOf head) (contentsOf V (now (t .entry))) .answer ≡ Ok (freshHead (dimensionsOf (head .sizes)))) × ((d : V) → PromiseFromStart d (startedRegister {V = V} (fillingOf head) (contentsOf V (now (t .entry)))) (C·Chooser .meaning (now (chooser .entry))) (logOf (now (list .exit))) (registerOf V started (now (t .exit))) (C·Chooser .meaning (now (chooser .exit)))) | Err refused ↦ (startOutcome {V = V} (fillingOf head) (contentsOf V (now (t .entry))) .answer ≡ Err (fillingOf (refused .0), refused .1)) × (refused .0 ≡ head) × (contentsOf V (now (t .exit)) ≡ contentsOf V (now (t .entry))) × (now (list .exit) ≡ now (list .entry)) × (now (chooser .exit) ≡ now (chooser .entry)) ] ⌝ }

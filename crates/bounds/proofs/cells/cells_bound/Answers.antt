@@ -1,4 +1,4 @@
-use Rattle.admission.specs.Lent.{registerOf}
+use Rattle.rules.specs.Registers.{registerOf}
 use Rattle.bounds.specs.Bounds.{cellBound}
 use Rattle.bounds.proofs.Looping.{most-more}
 use Rattle.bounds.proofs.cells.cells_bound.Needs as need

@@ -1,4 +1,4 @@
-use Rattle.admission.specs.Lent.{registerOf}
+use Rattle.rules.specs.Registers.{registerOf}
 use Rattle.bounds.specs.Bounds.{readerBound}
 use Rattle.bounds.proofs.Looping.{most-more}
 use Rattle.bounds.proofs.readers.readers_bound.Needs as need

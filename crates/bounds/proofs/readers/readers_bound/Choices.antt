@@ -1,6 +1,6 @@
 use mathlib.Core.Path.{_≡_}
 use Rattle.rules.specs.Tables.{most}
-use Rattle.admission.specs.Lent.{registerOf}
+use Rattle.rules.specs.Registers.{registerOf}
 use Rattle.bounds.specs.Bounds.{readerBound}
 use Rattle.bounds.proofs.readers.readers_bound.Given as given
 

@@ -2,8 +2,7 @@ use mathlib.Core.Path.{_≡_, refl, sym, _∙_}
 use mathlib.Core.Bool.{_&&_, true, false}
 use native.Mathlib.Omega.{arith}
 use Rattle.std.proofs.shelf.Tests.{and-from, and-left, and-right}
-use Rattle.rules.specs.Registers.{hasRead, hasWritten}
-use Rattle.admission.specs.Lent.{registerOf}
+use Rattle.rules.specs.Registers.{hasRead, hasWritten, registerOf}
 use Rattle.bounds.proofs.Looping.{some-at, some-more}
 use Rattle.bounds.proofs.readers.touches.Needs as need
 use Rattle.bounds.proofs.readers.touches.Needs.{else-has-read·by·then-has-read·else-has-written, else-has-read·by·else-has-read}

@@ -1,8 +1,7 @@
 use mathlib.Core.Path.{_≡_}
 use mathlib.Core.Bool.{false, _&&_}
 use Rattle.rules.specs.Tables.{some}
-use Rattle.rules.specs.Registers.{hasRead, hasWritten}
-use Rattle.admission.specs.Lent.{registerOf}
+use Rattle.rules.specs.Registers.{hasRead, hasWritten, registerOf}
 use Rattle.bounds.proofs.readers.touches.Given as given
 
 abbrev pub Inv-loop-i : given.InvT-loop-i

@@ -6,9 +6,9 @@ use borrow.Author.Needs.{needs}
 use lib.ListN.{length}
 use Rattle.choosers.specs.Meaning.{movedOn}
 use Rattle.rules.specs.Limits.{top}
-use Rattle.rules.specs.Registers.{Register, highOf}
+use Rattle.rules.specs.Registers.{Register, highOf, registerOf}
 use Rattle.rules.specs.Performing.{withBook}
-use Rattle.admission.specs.Lent.{registerOf, AllFit}
+use Rattle.admission.specs.Lent.{AllFit}
 use Rattle.endings.specs.Endings.{endedAt, MayEnd}
 use Rattle.commits.proofs.Stored.{stored-two, stored-all, stored-fits}
 use Rattle.commits.proofs.committing.commit_job.Needs as need

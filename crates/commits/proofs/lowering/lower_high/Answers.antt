@@ -6,7 +6,7 @@ use native.Mathlib.Numerals.{add-one}
 use borrow.Author.Needs.{needs}
 use Rattle.rules.specs.Contents.{closedRecord}
 use Rattle.rules.specs.JobCalls.{otherReader, lowered}
-use Rattle.admission.specs.Lent.{registerOf}
+use Rattle.rules.specs.Registers.{registerOf}
 use Rattle.endings.proofs.Turns.{kept}
 use Rattle.commits.specs.Committing.{withJobs}
 use Rattle.commits.proofs.LoweredHighs.{kept-lowered}

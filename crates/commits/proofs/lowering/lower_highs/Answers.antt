@@ -2,7 +2,7 @@ use mathlib.Core.Path.{_≡_, refl}
 use native.Mathlib.Omega.{arith}
 use borrow.Author.Needs.{needs}
 use Rattle.rules.specs.Contents.{closedRecord}
-use Rattle.admission.specs.Lent.{registerOf}
+use Rattle.rules.specs.Registers.{registerOf}
 use Rattle.endings.proofs.Turns.{turn-more, turn-all}
 use Rattle.commits.specs.Committing.{withJobs, loweredRecord}
 use Rattle.commits.proofs.LoweredHighs.{lower-same}

@@ -1,7 +1,7 @@
 use mathlib.Core.Path.{_≡_}
 use Rattle.rules.specs.Contents.{Same, closedRecord}
 use Rattle.rules.proofs.Changing.{upto, one-more}
-use Rattle.admission.specs.Lent.{registerOf}
+use Rattle.rules.specs.Registers.{registerOf}
 use Rattle.commits.specs.Committing.{withJobs, loweredRecord}
 use Rattle.commits.proofs.lowering.lower_highs.Given as given
 

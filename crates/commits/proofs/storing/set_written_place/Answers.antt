@@ -2,8 +2,7 @@ use mathlib.Core.Path.{_≡_, refl, sym, ap, _∙_}
 use Prim.Native.Nat.{ℕ, suc}
 use native.Mathlib.Numerals.{add-one}
 use borrow.Author.Needs.{needs}
-use Rattle.rules.specs.Registers.{hasWritten}
-use Rattle.admission.specs.Lent.{registerOf}
+use Rattle.rules.specs.Registers.{hasWritten, registerOf}
 use Rattle.endings.proofs.Turns.{kept}
 use Rattle.commits.specs.Committing.{withWrittenPlaces}
 use Rattle.commits.proofs.storing.set_written_place.Needs as need

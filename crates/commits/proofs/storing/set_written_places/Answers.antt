@@ -3,7 +3,7 @@ use native.Mathlib.Omega.{arith}
 use borrow.Author.Needs.{needs}
 use lib.ListN.{length}
 use Rattle.std.proofs.shelf.Lists.{length-set}
-use Rattle.admission.specs.Lent.{registerOf}
+use Rattle.rules.specs.Registers.{registerOf}
 use Rattle.endings.proofs.Turns.{turn-more, turn-all}
 use Rattle.commits.specs.Committing.{withWrittenPlaces, writtenPlace}
 use Rattle.commits.proofs.storing.set_written_places.Needs as need

@@ -2,7 +2,7 @@ use mathlib.Core.Path.{_≡_}
 use lib.ListN.{length}
 use Rattle.rules.specs.Contents.{Same}
 use Rattle.rules.proofs.Changing.{upto, one-more}
-use Rattle.admission.specs.Lent.{registerOf}
+use Rattle.rules.specs.Registers.{registerOf}
 use Rattle.commits.specs.Committing.{withWrittenPlaces, writtenPlace}
 use Rattle.commits.proofs.storing.set_written_places.Given as given
 

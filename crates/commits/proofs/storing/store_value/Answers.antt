@@ -5,8 +5,7 @@ use native.Mathlib.Numerals.{add-one}
 use borrow.Author.Needs.{needs}
 use lib.ListN.{length, getD}
 use Rattle.std.proofs.shelf.Lists.{set-past}
-use Rattle.rules.specs.Registers.{hasWritten, ownOf}
-use Rattle.admission.specs.Lent.{registerOf}
+use Rattle.rules.specs.Registers.{hasWritten, ownOf, registerOf}
 use Rattle.endings.proofs.Turns.{kept}
 use Rattle.commits.specs.Committing.{withValues, storedValue}
 use Rattle.commits.proofs.storing.store_value.Needs as need

@@ -5,7 +5,7 @@ use borrow.Author.Needs.{needs}
 use lib.ListN.{length}
 use Rattle.rules.specs.Tables.{spot}
 use Rattle.rules.proofs.Changing.{spot-in}
-use Rattle.admission.specs.Lent.{registerOf}
+use Rattle.rules.specs.Registers.{registerOf}
 use Rattle.endings.proofs.Turns.{turn-more, turn-all}
 use Rattle.commits.specs.Committing.{withValues, storedValue}
 use Rattle.commits.proofs.storing.store_values.Needs as need

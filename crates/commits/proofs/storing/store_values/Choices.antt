@@ -2,7 +2,8 @@ use mathlib.Core.Path.{_≡_}
 use Prim.Native.Nat.{_≤_}
 use Rattle.rules.specs.Contents.{Same}
 use Rattle.rules.proofs.Changing.{upto, one-more}
-use Rattle.admission.specs.Lent.{registerOf, AllFit}
+use Rattle.rules.specs.Registers.{registerOf}
+use Rattle.admission.specs.Lent.{AllFit}
 use Rattle.commits.specs.Committing.{withValues, storedValue}
 use Rattle.commits.proofs.storing.store_values.Given as given
 

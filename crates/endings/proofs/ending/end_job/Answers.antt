@@ -5,7 +5,7 @@ use borrow.Author.Needs.{needs}
 use lib.ListN.{length, set}
 use Rattle.std.proofs.shelf.Tests.{and-from, cond-true, lt-ltb}
 use Rattle.rules.specs.Tables.{row, cleared}
-use Rattle.admission.specs.Lent.{registerOf}
+use Rattle.rules.specs.Registers.{registerOf}
 use Rattle.endings.proofs.Ended.{ended-all, cleared-from}
 use Rattle.endings.proofs.ending.end_job.Needs as need
 

@@ -3,7 +3,7 @@ use native.Mathlib.Omega.{arith}
 use borrow.Author.Needs.{needs}
 use lib.ListN.{length}
 use Rattle.std.proofs.shelf.Lists.{length-set}
-use Rattle.admission.specs.Lent.{registerOf}
+use Rattle.rules.specs.Registers.{registerOf}
 use Rattle.endings.specs.Endings.{withReads, raisedRead}
 use Rattle.endings.proofs.Turns.{turn-more, turn-all}
 use Rattle.endings.proofs.reads.raise_reads.Needs as need

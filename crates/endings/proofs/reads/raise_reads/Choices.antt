@@ -2,7 +2,7 @@ use mathlib.Core.Path.{_≡_}
 use lib.ListN.{length}
 use Rattle.rules.specs.Contents.{Same}
 use Rattle.rules.proofs.Changing.{upto, one-more}
-use Rattle.admission.specs.Lent.{registerOf}
+use Rattle.rules.specs.Registers.{registerOf}
 use Rattle.endings.specs.Endings.{withReads, raisedRead}
 use Rattle.endings.proofs.reads.raise_reads.Given as given
 

@@ -1,9 +1,8 @@
 use mathlib.Core.Path.{_≡_, refl, sym, ap, subst, _∙_}
 use Prim.Native.Nat.{ℕ, _+_, _<_, _≤_}
 use native.Mathlib.Omega.{arith}
-use Rattle.rules.specs.Registers.{highOf}
+use Rattle.rules.specs.Registers.{highOf, registerOf}
 use Rattle.rules.specs.JobCalls.{commitLow}
-use Rattle.admission.specs.Lent.{registerOf}
 use Rattle.endings.specs.Endings.{AbandonedAt}
 use Rattle.commits.specs.Committing.{CommittedAt}
 use Rattle.jobs.proofs.Committed.{commit-abandons, commit-stores, no-room, room}

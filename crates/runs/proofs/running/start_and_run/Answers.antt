@@ -21,7 +21,8 @@ returns-in-Ok g c =
       kept = (
         sym (ap (λ (q : StartOutcome _). q .answer) out) ∙ ap (λ (q : Register _). Ok (q .head)) is,
         λ d.
-          let P : Register (g .V .Denot) → Type 0 = λ s. PromiseFromStart d s (g .C·Chooser .meaning (c .args .chooser .now)) (logOf (c .run .last .list))
-                (registerOf _ (c .run .last .head) (c .run .last .t)) (g .C·Chooser .meaning (c .run .last .chooser)) in
-          subst P is (from-start d _ _ _ _ _ (c .in-Ok .ensures tt .started) (c .run .ensures .promise d)));
+            let P : Register (g .V .Denot) → Type 0 = λ s. PromiseFromStart d s (g .C·Chooser .meaning (c .args .chooser .now)) (logOf (c .run .last .list))
+            (registerOf _ (c .run .last .head) (c .run .last .t)) (g .C·Chooser .meaning (c .run .last .chooser)) in
+            subst P is (from-start d _ _ _ _ _ (c .in-Ok .ensures tt .started) (c .run .ensures .promise d)),
+      );
     }
