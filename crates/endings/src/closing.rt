@@ -15,7 +15,8 @@ use terms::records::JobRecord;
 // Puts zeros for the flags of a row, which begins at `from` and has `count` flags; where the table has no such row
 // it is left as it is.
 pub fn clear_row(flags: &mut [u8], from: usize, count: usize)
-    ensures { λ _. ⌜ (from + count ≤ length (now (flags .entry)) → now (flags .exit) ≡ take from (now (flags .entry)) ++ (replicate count 0 ++ drop (from + count) (now (flags .entry)))) ⌝ }
+    ensures cleared { λ _. ⌜ (from + count ≤ length (now (flags .entry)) → now (flags .exit) ≡ take from (now (flags .entry)) ++ (replicate count 0 ++ drop (from + count) (now (flags .entry)))) ⌝ }
+    ensures no_row { λ _. ⌜ (length (now (flags .entry)) < from + count → now (flags .exit) ≡ now (flags .entry)) ⌝ }
 {
     if flags.len() < from || flags.len() - from < count {
         return;

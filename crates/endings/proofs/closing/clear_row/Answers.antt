@@ -14,5 +14,8 @@ pub loop-i-again : need.loop-i-again
 loop-i-again c = ap (λ (xs : List ℕ). set xs (c .args .from + c .loop-i .i) 0) (c .loop-i .inv) ∙ fill-from-more (c .args .flags .now) (c .args .from) (c .loop-i .i) 0 (omega arith)
 
 pub returns : need.returns
-returns c = λ h. c .loop-i .inv ∙ (paste-all (c .args .flags .now) (c .args .from) (replicate (c .loop-i .i) 0) (c .loop-i .i) (sym (length-replicate (c .loop-i .i) 0))
-    ∙ (let e : c .loop-i .i ≡ c .args .count = omega arith in ap (λ (k : ℕ). take (c .args .from) (c .args .flags .now) ++ (replicate k 0 ++ drop (c .args .from + k) (c .args .flags .now))) e))
+returns c = record {
+  cleared = λ h. c .loop-i .inv ∙ (paste-all (c .args .flags .now) (c .args .from) (replicate (c .loop-i .i) 0) (c .loop-i .i) (sym (length-replicate (c .loop-i .i) 0))
+      ∙ (let e : c .loop-i .i ≡ c .args .count = omega arith in ap (λ (k : ℕ). take (c .args .from) (c .args .flags .now) ++ (replicate k 0 ++ drop (c .args .from + k) (c .args .flags .now))) e));
+  no-row = λ h. absurd (omega arith);
+}
