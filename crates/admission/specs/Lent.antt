@@ -1,5 +1,5 @@
 -- A started register as it is lent to a call, and what is known of it once no test has refused the call.
-use mathlib.Core.List.{List, _++_}
+use mathlib.Core.List.{_++_}
 use mathlib.Core.Bool.{Bool, false}
 use Prim.Native.Nat.{ℕ, _+_, _<_, _≤_}
 use Rattle.std.specs.declared.option.Option.{Option}

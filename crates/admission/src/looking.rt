@@ -1,6 +1,5 @@
 ghost use mathlib.Core.Path.{_≡_};
-ghost use Prim.Native.Nat.{ℕ, _+_, _*_, _<_, _≤_, max};
-ghost use lib.ListN.{getD};
+ghost use Prim.Native.Nat.{_+_, _*_, _<_, _≤_, max};
 ghost use Rattle.rules.specs.Contents.{closedRecord};
 ghost use Rattle.rules.specs.Tables.{at, row as rowOf, spot as spotOf};
 ghost use Rattle.rules.specs.Registers.{isOpen, flagOf, hasRead, hasWritten, registerOf};
@@ -16,6 +15,7 @@ use terms::numbers::Place;
 use terms::records::JobRecord;
 use terms::records::Standing;
 
+// The record is of a crew that has a job open.
 pub fn is_open(standing: Standing) -> bool
     ensures { λ r. ⌜ r ≡ isOpen standing ⌝ }
 {

@@ -1,11 +1,11 @@
 -- An entry put into the book by a loop that moves the higher ones up.
-use mathlib.Core.Path.{_≡_, refl, sym, ap, ap₂, subst, _∙_}
+use mathlib.Core.Path.{_≡_, sym, ap, _∙_}
 use mathlib.Core.List.{List, [], _∷_, _++_}
-use Prim.Native.Nat.{ℕ, zero, suc, _+_, _-_, _≤_, _<_, min}
+use Prim.Native.Nat.{ℕ, zero, suc, _+_, _-_, _≤_, _<_}
 use native.Mathlib.Omega.{arith}
-use native.Mathlib.Numerals.{add-one, sub-one}
+use native.Mathlib.Numerals.{add-one}
 use lib.ListN.{length, getD, set, take, drop}
-use Rattle.std.proofs.shelf.Lists.{append-assoc, length-take, length-take-le, length-drop, length-append, getD-append-left, getD-take, set-at, take-more, drop-more, take-append-drop, take-take, take-at, drop-at, drop-all}
+use Rattle.std.proofs.shelf.Lists.{append-assoc, length-take-le, length-drop, length-append, getD-append-left, getD-take, set-at, take-more, drop-more, take-append-drop, take-take, take-at, drop-at, drop-all}
 use Rattle.terms.specs.declared.records.Entry.{Entry}
 use Rattle.terms.specs.declared.records.Ending.the-variants.{Committed}
 use Rattle.rules.specs.Performing.{All, NotAbove, Ascending, Inserted}

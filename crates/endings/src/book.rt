@@ -1,5 +1,5 @@
 ghost use mathlib.Core.Path.{_≡_};
-ghost use Prim.Native.Nat.{ℕ, _<_, _≤_};
+ghost use Prim.Native.Nat.{_<_, _≤_};
 ghost use lib.ListN.{length};
 ghost use Rattle.rules.specs.Performing.{Inserted};
 use terms::records::Entry;
@@ -7,8 +7,8 @@ use terms::records::Entry;
 // Puts an entry into the day book, which is the first `ended` entries of the book: after those of lower and before those
 // of higher places. A book without room is left as it is.
 pub fn insert(book: &mut [Entry], ended: usize, added: Entry)
-    ensures inserted { λ _. ⌜ (ended < length (now (book .entry)) → Inserted ended added (now (book .entry)) (now (book .exit))) ⌝ }
     ensures full { λ _. ⌜ (length (now (book .entry)) ≤ ended → now (book .exit) ≡ now (book .entry)) ⌝ }
+    ensures entered { λ _. ⌜ (ended < length (now (book .entry)) → Inserted ended added (now (book .entry)) (now (book .exit))) ⌝ }
 {
     if book.len() <= ended {
         return;

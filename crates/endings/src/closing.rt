@@ -1,7 +1,7 @@
 ghost use mathlib.Core.Path.{_≡_};
 ghost use mathlib.Core.List.{_++_};
 ghost use mathlib.Core.Bool.{cond, _&&_};
-ghost use Prim.Native.Nat.{ℕ, _+_, _<_, _≤_};
+ghost use Prim.Native.Nat.{_+_, _<_, _≤_};
 ghost use lib.Dec.{ltb};
 ghost use lib.ListN.{length, set, take, drop, replicate};
 ghost use Rattle.rules.specs.Limits.{top};
@@ -15,8 +15,8 @@ use terms::records::JobRecord;
 // Puts zeros for the flags of a row, which begins at `from` and has `count` flags; where the table has no such row
 // it is left as it is.
 pub fn clear_row(flags: &mut [u8], from: usize, count: usize)
+    ensures past { λ _. ⌜ (length (now (flags .entry)) < from + count → now (flags .exit) ≡ now (flags .entry)) ⌝ }
     ensures cleared { λ _. ⌜ (from + count ≤ length (now (flags .entry)) → now (flags .exit) ≡ take from (now (flags .entry)) ++ (replicate count 0 ++ drop (from + count) (now (flags .entry)))) ⌝ }
-    ensures no_row { λ _. ⌜ (length (now (flags .entry)) < from + count → now (flags .exit) ≡ now (flags .entry)) ⌝ }
 {
     if flags.len() < from || flags.len() - from < count {
         return;

@@ -1,2 +1,1 @@
-mod Looked
 mod Committed

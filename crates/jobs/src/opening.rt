@@ -1,4 +1,3 @@
-ghost use mathlib.Core.Path.{_≡_};
 ghost use Rattle.rules.specs.declared.calls.Call.the-variants.{Open as Opening};
 ghost use Rattle.rules.specs.Contents.{Same};
 ghost use Rattle.admission.specs.Lent.{CallPerformed};

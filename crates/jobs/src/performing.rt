@@ -1,11 +1,10 @@
-ghost use mathlib.Core.Path.{_≡_};
 ghost use Rattle.rules.specs.Contents.{Same};
 ghost use Rattle.admission.specs.Lent.{CallPerformed};
 use crate::abandoning::abandon;
 use crate::committing::commit;
 use crate::opening::open;
-use crate::reading::read;
-use crate::writing::write;
+use cell_calls::reading::read;
+use cell_calls::writing::write;
 use choosers::chooser::Chooser;
 use rules::calls::Answer;
 use rules::calls::Call;

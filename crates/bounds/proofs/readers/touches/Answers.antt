@@ -1,5 +1,5 @@
-use mathlib.Core.Path.{_≡_, refl, sym, _∙_}
-use mathlib.Core.Bool.{_&&_, true, false}
+use mathlib.Core.Path.{sym}
+use mathlib.Core.Bool.{_&&_}
 use native.Mathlib.Omega.{arith}
 use Rattle.std.proofs.shelf.Tests.{and-from, and-left, and-right}
 use Rattle.rules.specs.Registers.{hasRead, hasWritten, registerOf}

@@ -1,12 +1,12 @@
-use mathlib.Core.Path.{_≡_, refl, sym, ap, ap₂, subst, _∙_}
+use mathlib.Core.Path.{_≡_, sym, ap, ap₂, subst, _∙_}
 use mathlib.Core.List.{[]}
-use Prim.Native.Nat.{ℕ, _+_, _<_, _≤_}
+use Prim.Native.Nat.{_<_}
 use native.Mathlib.Omega.{arith}
 use borrow.Author.Needs.{needs}
 use lib.ListN.{length}
 use Rattle.choosers.specs.Meaning.{movedOn}
 use Rattle.rules.specs.Limits.{top}
-use Rattle.rules.specs.Registers.{Register, highOf, registerOf}
+use Rattle.rules.specs.Registers.{highOf, registerOf}
 use Rattle.rules.specs.Performing.{withBook}
 use Rattle.admission.specs.Lent.{AllFit}
 use Rattle.endings.specs.Endings.{endedAt, MayEnd}

@@ -1,6 +1,6 @@
-use mathlib.Core.Path.{_≡_, refl, sym, ap, _∙_}
-use Prim.Native.Nat.{ℕ, _-_, _+_, _<_, _≤_}
-use lib.ListN.{length, getD, set}
+use mathlib.Core.Path.{_≡_, ap}
+use Prim.Native.Nat.{_-_, _+_, _<_, _≤_}
+use lib.ListN.{length, getD}
 use native.Mathlib.Omega.{arith}
 use Rattle.endings.proofs.Shifts.{noEntry, shift-none, shifted-read, shifted-more, shifted-set, above-none, above-more, inserted-at}
 use Rattle.endings.proofs.book.insert.Needs as need
@@ -23,7 +23,8 @@ loop-i-again c =
 
 pub returns : need.returns
 returns c = record {
-  inserted = λ k.
+  full = λ k. absurd (omega arith);
+  entered = λ k.
       let l : c .loop-i .i ≤ c .args .ended = c .loop-i .inv .0 in
       rw (shifted-set (c .args .book .now) (c .args .ended) k (c .loop-i .book) (c .loop-i .i) (c .loop-i .inv .1 .0) (c .args .added) l (c .loop-i .inv .1 .1))
       (inserted-at (c .args .book .now) (c .args .ended) k (c .args .added) noEntry (c .loop-i .i) l (c .loop-i .inv .2)
@@ -31,5 +32,4 @@ returns c = record {
         | then-loop-i-test·else-added-book w ↦ rw (ap (λ z. z .place .0) (shifted-read (c .args .book .now) (c .args .ended) k (c .loop-i .book) (c .loop-i .i) (c .loop-i .i - 1) (c .loop-i .inv .1 .0) noEntry (omega arith) (omega arith) (c .loop-i .inv .1 .1))) at (w .if-added-book .left)
         | else-loop-i-test w ↦ absurd (omega (arith, w .loop-i-test))
       ]));
-  full = λ h. absurd (omega (arith, c .if-book-ended .left));
 }

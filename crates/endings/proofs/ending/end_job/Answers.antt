@@ -1,10 +1,10 @@
-use mathlib.Core.Path.{_≡_, ap, _∙_}
-use Prim.Native.Nat.{_+_, _-_, _*_, _<_, _≤_}
+use mathlib.Core.Path.{ap, _∙_}
+use Prim.Native.Nat.{_+_, _-_, _<_, _≤_}
 use native.Mathlib.Omega.{arith}
 use borrow.Author.Needs.{needs}
 use lib.ListN.{length, set}
 use Rattle.std.proofs.shelf.Tests.{and-from, cond-true, lt-ltb}
-use Rattle.rules.specs.Tables.{row, cleared}
+use Rattle.rules.specs.Tables.{cleared}
 use Rattle.rules.specs.Registers.{registerOf}
 use Rattle.endings.proofs.Ended.{ended-all, cleared-from}
 use Rattle.endings.proofs.ending.end_job.Needs as need
@@ -23,5 +23,5 @@ returns g c = record {
   enters = λ h.
       let same-book = ap (λ x. x .tables .book) (c .raise-reads .ensures .step) in
       let room : c .args .head .now .ended < length (c .raise-reads .last .t .book .now) = omega (arith, ap length same-book, h .fits .book, h .counted) in
-      rw same-book at (c .insert .ensures .inserted room);
+      rw same-book at (c .insert .ensures .entered room);
 }

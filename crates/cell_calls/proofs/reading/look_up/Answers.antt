@@ -1,11 +1,8 @@
-use mathlib.Core.Path.{_≡_, refl, sym, ap, _∙_}
-use mathlib.Core.Bool.{cond}
-use Prim.Native.Nat.{ℕ, _-_, _+_, _<_}
-use lib.ListN.{length, getD, take, drop}
+use mathlib.Core.Path.{sym, _∙_}
 use native.Mathlib.Omega.{arith}
 use Rattle.std.proofs.shelf.Tests.{cond-true, cond-false}
-use Rattle.jobs.proofs.Looked.{one-long, one-shown}
-use Rattle.jobs.proofs.reading.look_up.Needs as need
+use Rattle.cell_calls.proofs.Looked.{one-long, one-shown}
+use Rattle.cell_calls.proofs.reading.look_up.Needs as need
 
 pub returns-then-own : need.returns-then-own
 returns-then-own g c = record { one = one-long (c .args .t .now .own .now) (c .args .spot) (omega arith); shows = λ d. one-shown (c .args .t .now .own .now) (c .args .spot) d ∙ sym (cond-true _ _ _ (c .if-own .taken)) }

@@ -1,0 +1,3 @@
+// The two job calls that name a cell.
+pub mod reading;
+pub mod writing;
