@@ -5,8 +5,8 @@ pub struct Draws {
 }
 
 impl Draws {
-    // A number from `low` on, one of 64 at most.
-    pub fn draw(&mut self, low: u64, count: u8) -> u64 {
+    // One of `count` numbers from `low` on, or `low` where `count` is 0.
+    pub(crate) fn draw(&mut self, low: u64, count: u8) -> u64 {
         self.state = self.state
             .wrapping_mul(1_664_525)
             .wrapping_add(1_013_904_223);
@@ -18,7 +18,7 @@ impl Draws {
     }
 
     // 1 to 4, or now and then 5, which is the number of nothing.
-    pub fn one_of_four(&mut self) -> u64 {
+    pub(crate) fn one_of_four(&mut self) -> u64 {
         let drawn = self.draw(0, 25);
         if drawn == 24 { 5 } else { drawn % 4 + 1 }
     }

@@ -54,7 +54,7 @@ fn print_refusal(rt: &LibcRuntime, refusal: Refusal) -> io::Result<()> {
 }
 
 // Prints a call, and its answer after a space.
-pub fn print_exchange<K: Kind>(rt: &LibcRuntime, exchange: &Exchange<K>) -> io::Result<()> {
+pub(crate) fn print_exchange<K: Kind>(rt: &LibcRuntime, exchange: &Exchange<K>) -> io::Result<()> {
     print_call(rt, exchange.call)?;
     match exchange.answer {
         Ok(Answer::Opened(job)) => {
@@ -76,7 +76,7 @@ pub fn print_exchange<K: Kind>(rt: &LibcRuntime, exchange: &Exchange<K>) -> io::
 }
 
 // Prints the values of the cells.
-pub fn print_cells<K: Kind>(rt: &LibcRuntime, values: &[K]) -> io::Result<()> {
+pub(crate) fn print_cells<K: Kind>(rt: &LibcRuntime, values: &[K]) -> io::Result<()> {
     for value in values {
         print!(rt, "V")?;
         print_fields(rt, value)?;
@@ -86,7 +86,7 @@ pub fn print_cells<K: Kind>(rt: &LibcRuntime, values: &[K]) -> io::Result<()> {
 }
 
 // Prints the day book: the book's first `ended` entries.
-pub fn print_book(rt: &LibcRuntime, book: &[Entry], ended: usize) -> io::Result<()> {
+pub(crate) fn print_book(rt: &LibcRuntime, book: &[Entry], ended: usize) -> io::Result<()> {
     for entry in book.iter().take(ended) {
         let (job, crew, place) = (entry.job.0, entry.crew.0, entry.place.0);
         let ending = match entry.ending {

@@ -35,7 +35,7 @@ pub impl Sample for Dial as DialSample {
 }
 
 // A call by chance, now and then of a crew or a cell that is not there.
-pub fn call_by_chance<K: Sample>(draws: &mut Draws) -> Call<K> {
+pub(crate) fn call_by_chance<K: Sample>(draws: &mut Draws) -> Call<K> {
     let which = draws.draw(0, 14);
     let crew = CrewNumber(draws.one_of_four());
     let cell = CellNumber(draws.one_of_four());
