@@ -13,11 +13,11 @@ returns-then-b-lt48 c =
       | then-b-lt48-via-else-b-lt48+then-b-gt57 w ↦ sym (b ∙ sym c.loop-b.invariant.0 ∙ read_stop c.args.field.now c.loop-b.b-index c.loop-b.n c.loop-b-test.true (above_digits _ w.if-b-gt57.true))
     ]
 
-pub overflow-mul-n : goal.overflow-mul-n
-overflow-mul-n c = omega (arith, more_fits c.loop-b.n c.loop-b.b-index 0 c.loop-b.invariant.1 (omega arith) (omega arith))
+pub overflow_mul-n : goal.overflow_mul-n
+overflow_mul-n c = omega (arith, more_fits c.loop-b.n c.loop-b.b-index 0 c.loop-b.invariant.1 (omega arith) (omega arith))
 
-pub overflow-add-n : goal.overflow-add-n
-overflow-add-n c =
+pub overflow_add-n : goal.overflow_add-n
+overflow_add-n c =
     let d : get_or c.args.field.now c.loop-b.b-index 0 - 48 ≤ 9 = omega arith in
     omega (arith, more_fits c.loop-b.n c.loop-b.b-index _ c.loop-b.invariant.1 (omega arith) d)
 

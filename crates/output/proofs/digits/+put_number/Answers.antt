@@ -22,8 +22,8 @@ bounds-out-last t c =
     let e = length_step c.args.n (omega arith) (omega arith) in
     omega (arith, e, c.put-number-last.ensures.ends, c.put-number-last.auto.out)
 
-pub overflow-add-result-2 : goal.overflow-add-result-2
-overflow-add-result-2 t c =
+pub overflow_add-result-2 : goal.overflow_add-result-2
+overflow_add-result-2 t c =
     let e = length_step c.args.n (omega arith) (omega arith) in
     omega (arith, e, c.put-number-last.ensures.ends)
 
