@@ -18,7 +18,7 @@ pub fn write_answer<K: Kind>(
     out: &mut [u8],
     answer: &Result<Answer<K>, Refusal>,
 ) -> Result<(), Refusal>
-    ensures { Written (answer_line form answer.now) count.old out.old result count.new out.new }
+    ensures { Written (answer_line K.form answer.now) count.old out.old result count.new out.new }
 {
     match *answer {
         Ok(Answer::Opened(job)) => write_line(count, out, PLUS, &[job.0], None),
@@ -35,7 +35,7 @@ pub fn write_answers<K: Kind>(
     out: &mut [u8],
     list: &[Exchange<K>],
 ) -> Result<(), Refusal>
-    ensures { WrittenAll (map (λ e. answer_line form e.answer) list.now) count.old out.old result count.new out.new }
+    ensures { WrittenAll (map (λ e. answer_line K.form e.answer) list.now) count.old out.old result count.new out.new }
 {
     for exchange in list {
         write_answer(count, out, &exchange.answer)?;

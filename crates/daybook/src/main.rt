@@ -1,3 +1,5 @@
+#![tactic(auto)]
+
 use schedule::account::account;
 use std::io;
 use std::io::{Read, Write};

@@ -1,3 +1,5 @@
+#![tactic(auto)]
+
 // What the rules promise: theorems on every run of job calls, each the contract of a function that does nothing.
 ghost use Rattle.guarantee.specs.RuleFacts.{NoOutcomeDependsOnDefault, EveryCallCanBePerformed, CommitBoundIsLargest};
 ghost use Rattle.guarantee.specs.Histories.{HistoriesAreTrue};

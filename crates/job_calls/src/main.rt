@@ -1,3 +1,5 @@
+#![tactic(auto)]
+
 mod draws;
 mod printing;
 mod samples;

@@ -26,8 +26,8 @@ pub fn write_refusal(count: &mut Count, out: &mut [u8], refusal: Refusal) -> Res
 
 // Stores the numbers of a value's fields at the front of a list, and answers how many there are.
 fn list_fields<K: Kind>(value: &K, numbers: &mut [u64; 64]) -> usize
-    ensures count { result ≡ form.width }
-    ensures front { take result numbers.new ≡ form.fields value.now }
+    ensures count { result ≡ K.form.width }
+    ensures front { take result numbers.new ≡ K.form.fields value.now }
 {
     for i in 0..K::count() {
         numbers[i] = value.field(i);
@@ -42,7 +42,7 @@ pub fn write_fields<K: Kind>(
     lead: Lead,
     value: &K,
 ) -> Result<(), Refusal>
-    ensures { Written (line_of lead (form.fields value.now) None) count.old out.old result count.new out.new }
+    ensures { Written (line_of lead (K.form.fields value.now) None) count.old out.old result count.new out.new }
 {
     let mut numbers = [0; 64];
     let fields = list_fields(value, &mut numbers);
@@ -51,14 +51,14 @@ pub fn write_fields<K: Kind>(
 
 // Writes the line of a cell's value: `V`, then its fields.
 pub fn write_value<K: Kind>(count: &mut Count, out: &mut [u8], value: &K) -> Result<(), Refusal>
-    ensures { Written (value_line form value.now) count.old out.old result count.new out.new }
+    ensures { Written (value_line K.form value.now) count.old out.old result count.new out.new }
 {
     write_fields(count, out, Lead::Letter(b'V'), value)
 }
 
 // Writes a line for each of a table's values, until one finds no room.
 pub fn write_values<K: Kind>(count: &mut Count, out: &mut [u8], values: &[K]) -> Result<(), Refusal>
-    ensures { WrittenAll (map (value_line form) values.now) count.old out.old result count.new out.new }
+    ensures { WrittenAll (map (value_line K.form) values.now) count.old out.old result count.new out.new }
 {
     for value in values {
         write_value(count, out, value)?;

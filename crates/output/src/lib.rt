@@ -1,4 +1,6 @@
 // The output: lines written into a lent paper, each whole or not at all.
+#![tactic(auto)]
+
 pub mod answers;
 pub mod count;
 mod digits;

@@ -1,3 +1,5 @@
 // The register's calls.
+#![tactic(auto)]
+
 pub mod making;
 pub mod refusing;

@@ -1,3 +1,5 @@
+#![tactic(auto)]
+
 // What making a register and choosing places do, on examples.
 #[cfg(test)]
 mod choosing;

@@ -31,10 +31,10 @@ pub(crate) fn fill_cells<'a, K: Kind>(
     reader: &mut Reader,
     text: &'a [u8],
 ) -> Result<&'a [u8], BadLine>
-    requires { FilledTo form (lines_of text.now) 0 (filling_of head.old) (contents_of K t.old) reader.old (lines_of text.now) }
+    requires { FilledTo K.form (lines_of text.now) 0 (filling_of head.old) (contents_of K t.old) reader.old (lines_of text.now) }
     ensures same { Same K t.new t.old }
     ensures sizes { dimensions_of head.new.sizes ≡ dimensions_of head.old.sizes }
-    ensures read { elim result [ Ok rest ↦ FilledTo form (lines_of text.now) head.old.sizes.cells (filling_of head.new) (contents_of K t.new) reader.new (lines_of rest.now) | Err bad ↦ at_cells form head.old.sizes.cells 3 [] (lines_of text.now) ≡ bad_line bad ] }
+    ensures read { elim result [ Ok rest ↦ FilledTo K.form (lines_of text.now) head.old.sizes.cells (filling_of head.new) (contents_of K t.new) reader.new (lines_of rest.now) | Err bad ↦ at_cells K.form head.old.sizes.cells 3 [] (lines_of text.now) ≡ bad_line bad ] }
 {
     let cells = head.sizes.cells;
     let mut rest = text;

@@ -33,7 +33,7 @@ fn start_filled<K: Kind>(head: Filling, t: &mut Tables<'_, K>) -> Started
 // Reads the lines of calls, from line `number` on. No call is built yet, so that the reader takes no line here.
 fn read_calls<K: Kind>(reader: &mut Reader, number: usize, text: &[u8]) -> Result<(), BadLine>
     requires { reader.old.stage ≡ Calls }
-    ensures { elim result [ Ok _ ↦ ((values : List K) → at_calls form number values (lines_of text.now) ≡ map (value_line form) values) | Err bad ↦ ((values : List K) → at_calls form number values (lines_of text.now) ≡ bad_line bad) ] }
+    ensures { elim result [ Ok _ ↦ ((values : List K) → at_calls K.form number values (lines_of text.now) ≡ map (value_line K.form) values) | Err bad ↦ ((values : List K) → at_calls K.form number values (lines_of text.now) ≡ bad_line bad) ] }
 {
     if text.is_empty() {
         return Ok(());
@@ -51,9 +51,9 @@ pub(crate) fn make_register<K: Kind>(
     reader: &mut Reader,
     text: &[u8],
 ) -> Result<Started, BadLine>
-    requires { (Fits {V = K} (dimensions_of sizes) (contents_of K t.old)) × (reader.old ≡ record { stage = Cells; left = sizes.cells; width = form.width }) }
+    requires { (Fits {V = K} (dimensions_of sizes) (contents_of K t.old)) × (reader.old ≡ record { stage = Cells; left = sizes.cells; width = K.form.width }) }
     ensures same { Same K t.new t.old }
-    ensures read { elim result [ Ok _ ↦ at_cells form sizes.cells 3 [] (lines_of text.now) ≡ map (value_line form) t.new.values.now | Err bad ↦ at_cells form sizes.cells 3 [] (lines_of text.now) ≡ bad_line bad ] }
+    ensures read { elim result [ Ok _ ↦ at_cells K.form sizes.cells 3 [] (lines_of text.now) ≡ map (value_line K.form) t.new.values.now | Err bad ↦ at_cells K.form sizes.cells 3 [] (lines_of text.now) ≡ bad_line bad ] }
 {
     let mut head = Filling::new(sizes);
     let rest = fill_cells(&mut head, t, reader, text)?;

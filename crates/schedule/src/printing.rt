@@ -30,8 +30,8 @@ fn print_made<K: Kind>(
     count: &mut Count,
     out: &mut [u8],
 ) -> Result<(), Refusal>
-    requires { (Fits {V = K} (dimensions_of sizes) (contents_of K t.old)) × (reader.old ≡ record { stage = Cells; left = sizes.cells; width = form.width }) }
-    ensures { WrittenAll (at_cells form sizes.cells 3 [] (lines_of text.now)) count.old out.old result count.new out.new }
+    requires { (Fits {V = K} (dimensions_of sizes) (contents_of K t.old)) × (reader.old ≡ record { stage = Cells; left = sizes.cells; width = K.form.width }) }
+    ensures { WrittenAll (at_cells K.form sizes.cells 3 [] (lines_of text.now)) count.old out.old result count.new out.new }
 {
     match make_register(sizes, t, reader, text) {
         Ok(_) => write_values(count, out, t.values),
@@ -87,7 +87,7 @@ fn print_front<K: Kind>(
     out: &mut [u8],
 ) -> Result<(), Refusal>
     requires { (InRange opening.head) × ((opening.reader ≡ record { stage = Cells; left = opening.head.cells; width = 0 }) × ((64 ≤ length values.old) × (64 ≤ length written.old) × (64 ≤ length read.old) × (8 ≤ length jobs.old) × (512 ≤ length own.old) × (512 ≤ length flags.old) × (256 ≤ length book.old))) }
-    ensures { WrittenAll (at_cells form opening.entry.head.cells 3 [] (lines_of opening.entry.rest.now)) count.old out.old result count.new out.new }
+    ensures { WrittenAll (at_cells K.form opening.entry.head.cells 3 [] (lines_of opening.entry.rest.now)) count.old out.old result count.new out.new }
 {
     let sizes = sizes_of(opening.head);
     let (cells, crews, entries) = (sizes.cells, sizes.crews, sizes.entries);
@@ -123,7 +123,7 @@ fn print_kind<K: Kind>(
     out: &mut [u8],
 ) -> Result<(), Refusal>
     requires { (InRange opening.head) × ((opening.reader ≡ record { stage = Cells; left = opening.head.cells; width = 0 }) × ((64 ≤ length values.old) × (512 ≤ length own.old))) }
-    ensures { WrittenAll (at_cells form opening.entry.head.cells 3 [] (lines_of opening.entry.rest.now)) count.old out.old result count.new out.new }
+    ensures { WrittenAll (at_cells K.form opening.entry.head.cells 3 [] (lines_of opening.entry.rest.now)) count.old out.old result count.new out.new }
 {
     let mut written = [0; 64];
     let mut read = [0; 64];

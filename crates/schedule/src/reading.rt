@@ -69,7 +69,7 @@ pub(crate) fn cell_line<'a, K: Kind>(
     number: usize,
     text: &'a [u8],
 ) -> Result<(K, &'a [u8]), BadLine>
-    ensures { elim result [ Ok p ↦ ((next : K → Lines → Lines) → wanted number reader.old.stage reader.old.width (read_cell form) next (lines_of text.now) ≡ next p.0 (lines_of p.1.now)) × (reader.new ≡ moved_on reader.old.stage reader.old.left reader.old.width) | Err bad ↦ ((next : K → Lines → Lines) → wanted number reader.old.stage reader.old.width (read_cell form) next (lines_of text.now) ≡ bad_line bad) ] }
+    ensures { elim result [ Ok p ↦ ((next : K → Lines → Lines) → wanted number reader.old.stage reader.old.width (read_cell K.form) next (lines_of text.now) ≡ next p.0 (lines_of p.1.now)) × (reader.new ≡ moved_on reader.old.stage reader.old.left reader.old.width) | Err bad ↦ ((next : K → Lines → Lines) → wanted number reader.old.stage reader.old.width (read_cell K.form) next (lines_of text.now) ≡ bad_line bad) ] }
 {
     let (line, rest) = next_line(reader, number, text)?;
     let (_, fields) = read_field(line);

@@ -27,7 +27,7 @@ fn read_number(field: &[u8], at: usize) -> Result<u64, BadField>
 
 // Reads the call of a line, `O,crew` or `R,crew,cell` or `W,crew,cell,fields` or `C,crew` or `A,crew`, from left to right.
 pub fn read_call<K: Kind>(line: &[u8]) -> Result<Call<K>, BadField>
-    ensures { result ≡ read_call form line.now }
+    ensures { result ≡ read_call K.form line.now }
 {
     let (letter, rest) = read_field(line);
     let (crew, rest) = read_field(rest);

@@ -1,9 +1,7 @@
-ghost use Rattle.std.specs.Prelude.{◌≡◌, ℕ, ◌^◌, ◌<◌, ◌≤◌, true, length, Ok, nat_le, slice_index, refl};
+ghost use Rattle.std.specs.Prelude.{◌≡◌, ℕ, ◌≤◌, true, length, Ok, slice_index};
 ghost use Rattle.values.specs.Forms.{Form, read_value, written};
-ghost use Rattle.values.specs.Kinds.{card_form, dial_form, serial_fits, litres_fit, gateway_fits};
-ghost use Rattle.std.proofs.Common.{arith, rules};
-ghost use Rattle.std.proofs.lemmas.Bool.{and_parts, leb-true, cond-true};
-ghost use Rattle.values.specs.ReadsBack.{fields_read_back};
+ghost use Rattle.values.specs.Kinds.{card_form, dial_form};
+ghost use Rattle.values.specs.KindLaws.{card_width, card_few, card_reads_back, dial_width, dial_few, dial_reads_back};
 
 use crate::records::{Card, Dial};
 
@@ -43,31 +41,11 @@ impl Kind for Card {
 
     ghost form = { card_form };
 
-    ghost width = { Prim.search rules };
+    ghost width = { card_width };
 
-    ghost few = { Prim.search rules };
+    ghost few = { card_few };
 
-    ghost reads_back = { λ v first h.
-        let a = and_parts (serial_fits v.serial) _ h in
-        let b = and_parts (litres_fit v.litres) (gateway_fits v.gateway) a.1 in
-        let s = leb-true v.serial 99999999 (and_parts (nat_le 1 v.serial) _ a.0).1 in
-        let l = leb-true v.litres 999999999 (and_parts (nat_le 0 v.litres) _ b.0).1 in
-        let w = leb-true v.gateway 65535 (and_parts (nat_le 1 v.gateway) _ b.1).1 in
-        fields_read_back card_form first 0 card_form.blank (card_form.fields v) v (
-          omega arith,
-          (
-            record { serial = v.serial; litres = 0; gateway = 0 },
-            cond-true _ _ _ a.0,
-            (
-              omega arith,
-              (
-                record { serial = v.serial; litres = v.litres; gateway = 0 },
-                cond-true _ _ _ b.0,
-                (omega arith, (v, cond-true _ _ _ b.1, refl)),
-              ),
-            ),
-          ),
-        ) };
+    ghost reads_back = { card_reads_back };
 
     fn count() -> usize {
         Self::FIELDS
@@ -114,15 +92,11 @@ impl Kind for Dial {
 
     ghost form = { dial_form };
 
-    ghost width = { Prim.search rules };
+    ghost width = { dial_width };
 
-    ghost few = { Prim.search rules };
+    ghost few = { dial_few };
 
-    ghost reads_back = { λ v first h.
-        let p = and_parts _ _ h in
-        let t = leb-true v.number 999999999 p.1 in
-        fields_read_back dial_form first 0 dial_form.blank (dial_form.fields v) v
-        (omega arith, (v, cond-true _ _ _ h, refl)) };
+    ghost reads_back = { dial_reads_back };
 
     fn count() -> usize {
         Self::FIELDS

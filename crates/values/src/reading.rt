@@ -8,7 +8,7 @@ use text::{number, read_field};
 // Reads a value's fields from what is left of a line, in which the first of them is field `first`, counted from 1. The
 // first bad field is refused with its cause.
 pub fn read_value<K: Kind>(line: &[u8], first: u8) -> Result<K, BadField>
-    ensures { result ≡ read_value form first line.now }
+    ensures { result ≡ read_value K.form first line.now }
 {
     let mut value = K::blank();
     let mut rest = line;

@@ -14,17 +14,17 @@ returns g c = record {
   committed = λ h d.
       let r = register_of _ c.args.head.now c.args.t.now in
       let w = c.args.crew.number in
-      let p = c.commit-place-place.result.0 in
-      let values = c.store-values.ensures.step h.goes_on.fits h.goes_on.crew d in
-      let two = stored_two d r (register_of _ c.args.head.now c.store-values.new.t) (register_of _ c.args.head.now c.set-written-places.new.t) r w p values c.set-written-places.ensures.step in
-      let all = stored_all d r (register_of _ c.args.head.now c.store-values.new.t) (register_of _ c.args.head.now c.set-written-places.new.t) (register_of _ c.args.head.now c.lower-highs.new.t) w p values c.set-written-places.ensures.step (c.lower-highs.ensures.step (ap (λ x. length x.tables.jobs) two ∙ h.goes_on.fits.jobs)) in
-      let high : c.record-of-job.result.high.0 ≡ high_of r w = ap (λ j. j.high.0) c.record-of-job.ensures in
-      let under : p < top = omega (arith, high, c.commit-place-place.ensures.gave, h.goes_on.under_top, h.room, ((g.C.Chooser.lawful c.args.chooser.now).between [] c.args.low.0 c.record-of-job.result.high.0 (omega (arith, high, h.room))).1) in
-      let ends : MayEnd (register_of _ c.args.head.now c.lower-highs.new.t) w p = record { fits = subst AllFit (sym all) (stored_fits d r w p h.goes_on.fits); crew = h.goes_on.crew; counted = h.goes_on.counted; under_top = under } in
+      let p = c.commit_place-place.result.0 in
+      let values = c.store_values.ensures.step h.goes_on.fits h.goes_on.crew d in
+      let two = stored_two d r (register_of _ c.args.head.now c.store_values.new.t) (register_of _ c.args.head.now c.set_written_places.new.t) r w p values c.set_written_places.ensures.step in
+      let all = stored_all d r (register_of _ c.args.head.now c.store_values.new.t) (register_of _ c.args.head.now c.set_written_places.new.t) (register_of _ c.args.head.now c.lower_highs.new.t) w p values c.set_written_places.ensures.step (c.lower_highs.ensures.step (ap (λ x. length x.tables.jobs) two ∙ h.goes_on.fits.jobs)) in
+      let high : c.record_of-job.result.high.0 ≡ high_of r w = ap (λ j. j.high.0) c.record_of-job.ensures in
+      let under : p < top = omega (arith, high, c.commit_place-place.ensures.gave, h.goes_on.under_top, h.room, ((g.C.Chooser.lawful c.args.chooser.now).between [] c.args.low.0 c.record_of-job.result.high.0 (omega (arith, high, h.room))).1) in
+      let ends : MayEnd (register_of _ c.args.head.now c.lower_highs.new.t) w p = record { fits = subst AllFit (sym all) (stored_fits d r w p h.goes_on.fits); crew = h.goes_on.crew; counted = h.goes_on.counted; under_top = under } in
       record {
-        place = c.commit-place-place.ensures.gave ∙ ap₂ (g.C.Chooser.meaning c.args.chooser.now []) h.bound high;
-        leaves = c.end-job.ensures.leaves ends ∙ ap (λ x. with_book (ended_at x w p) c.end-job.new.t.book.now) all;
-        asks = c.commit-place-place.ensures.moved ∙ ap₂ (moved_on (g.C.Chooser.meaning c.args.chooser.now)) h.bound high;
-        enters = rw (ap (λ x. x.tables.book) all, ap (λ j. j.job) c.record-of-job.ensures) at (c.end-job.ensures.enters ends);
+        place = c.commit_place-place.ensures.gave ∙ ap₂ (g.C.Chooser.meaning c.args.chooser.now []) h.bound high;
+        leaves = c.end_job.ensures.leaves ends ∙ ap (λ x. with_book (ended_at x w p) c.end_job.new.t.book.now) all;
+        asks = c.commit_place-place.ensures.moved ∙ ap₂ (moved_on (g.C.Chooser.meaning c.args.chooser.now)) h.bound high;
+        enters = rw (ap (λ x. x.tables.book) all, ap (λ j. j.job) c.record_of-job.ensures) at (c.end_job.ensures.enters ends);
       };
 }

@@ -8,8 +8,8 @@ use Rattle.commits.proofs.storing.set_written_places.Goals as goal
 pub loop-i-preserved : goal.loop-i-preserved
 loop-i-preserved g c = (
   search rules,
-  ap (λ r. length r.tables.written) c.set-written-place.ensures.step ∙ length-set _ _ _ ∙ c.loop-i.invariant.1,
-  turn_more with_written_places (λ r. r.tables.written) (written_place c.args.crew.number c.args.place.0) 0 (register_of _ c.args.head.now c.args.t.now) (register_of _ c.args.head.now c.loop-i.t) (register_of _ c.args.head.now c.set-written-place.new.t) c.loop-i.i c.loop-i.invariant.2 (λ xs q. refl) c.set-written-place.ensures.step,
+  ap (λ r. length r.tables.written) c.set_written_place.ensures.step ∙ length-set _ _ _ ∙ c.loop-i.invariant.1,
+  turn_more with_written_places (λ r. r.tables.written) (written_place c.args.crew.number c.args.place.0) 0 (register_of _ c.args.head.now c.args.t.now) (register_of _ c.args.head.now c.loop-i.t) (register_of _ c.args.head.now c.set_written_place.new.t) c.loop-i.i c.loop-i.invariant.2 (λ xs q. refl) c.set_written_place.ensures.step,
 )
 
 pub returns : goal.returns

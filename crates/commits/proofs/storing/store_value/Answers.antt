@@ -14,9 +14,9 @@ returns-else-k-t g c = record {
       ap (with_values (register_of _ c.args.head.now c.args.t.now)) (sym (set_past c.args.t.now.values.now c.args.i (stored_value d c.args.crew.number (register_of _ c.args.head.now c.args.t.now) (suc c.args.i) (get_or c.args.t.now.values.now c.args.i d)) past));
 }
 
-pub returns-else-has-written : goal.returns-else-has-written
-returns-else-has-written g c = record {
+pub returns-else-has_written : goal.returns-else-has_written
+returns-else-has_written g c = record {
   same = search rules;
   step = λ d inside. kept (with_values (register_of _ c.args.head.now c.args.t.now)) (has_written (register_of _ c.args.head.now c.args.t.now) c.args.crew.number (suc c.args.i)) c.args.t.now.values.now c.args.i (own_of d (register_of _ c.args.head.now c.args.t.now) c.args.crew.number (suc c.args.i)) d
-      (ap (λ (k : ℕ). has_written (register_of _ c.args.head.now c.args.t.now) c.args.crew.number k) (sym (add-one c.args.i)) ∙ sym c.if-has-written.ensures);
+      (ap (λ (k : ℕ). has_written (register_of _ c.args.head.now c.args.t.now) c.args.crew.number k) (sym (add-one c.args.i)) ∙ sym c.if-has_written.ensures);
 }

@@ -8,8 +8,8 @@ use Rattle.endings.proofs.reads.raise_reads.Goals as goal
 pub loop-i-preserved : goal.loop-i-preserved
 loop-i-preserved g c = (
   search rules,
-  ap (λ r. length r.tables.read) c.raise-read.ensures.step ∙ length-set _ _ _ ∙ c.loop-i.invariant.1,
-  turn_more with_reads (λ r. r.tables.read) (raised_read c.args.crew.number c.args.place.0) 0 (register_of _ c.args.head.now c.args.t.now) (register_of _ c.args.head.now c.loop-i.t) (register_of _ c.args.head.now c.raise-read.new.t) c.loop-i.i c.loop-i.invariant.2 (λ xs q. refl) c.raise-read.ensures.step,
+  ap (λ r. length r.tables.read) c.raise_read.ensures.step ∙ length-set _ _ _ ∙ c.loop-i.invariant.1,
+  turn_more with_reads (λ r. r.tables.read) (raised_read c.args.crew.number c.args.place.0) 0 (register_of _ c.args.head.now c.args.t.now) (register_of _ c.args.head.now c.loop-i.t) (register_of _ c.args.head.now c.raise_read.new.t) c.loop-i.i c.loop-i.invariant.2 (λ xs q. refl) c.raise_read.ensures.step,
 )
 
 pub returns : goal.returns

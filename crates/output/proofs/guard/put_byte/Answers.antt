@@ -6,7 +6,7 @@ use Rattle.output.proofs.guard.put_byte.Goals as goal
 
 pub returns : goal.returns
 returns c =
-    let room = leb-true (c.args.line.now.count.now.used + 1 + 64) (length c.args.out.now) (sym c.if-not-has-room.ensures) in
+    let room = leb-true (c.args.line.now.count.now.used + 1 + 64) (length c.args.out.now) (sym c.if-not-has_room.ensures) in
     record {
       writes = writes_true c.args.line.now.count.now.used c.args.out.now (c.args.b ∷ []) _ _ (omega (arith, room)) refl
           (laid_one c.args.out.now c.args.line.now.count.now.used c.args.b (omega (arith, room)));

@@ -4,10 +4,10 @@ use Rattle.output.proofs.Commas.{writes_none}
 use Rattle.output.proofs.Pieces.{writes_as, writes_then}
 use Rattle.output.proofs.lines.put_tail.Goals as goal
 
-pub returns-in-default : goal.returns-in-default
-returns-in-default c =
+pub returns-in_default : goal.returns-in_default
+returns-in_default c =
     record {
-      writes = writes_as _ _ _ _ _ _ _ (ap tail_bytes (sym c.in-default.is)) (writes_none c.args.line.now.count.now.used c.args.out.now c.requires);
+      writes = writes_as _ _ _ _ _ _ _ (ap tail_bytes (sym c.in_default.is)) (writes_none c.args.line.now.count.now.used c.args.out.now c.requires);
       same = search rules;
     }
 
@@ -15,6 +15,6 @@ pub returns : goal.returns
 returns c =
     record {
       writes = writes_as _ _ _ _ _ _ _ (ap tail_bytes (sym c.in-Some.is))
-          (writes_then _ _ _ _ _ _ _ _ _ c.in-ok-put-byte.ensures.writes c.put-byte-2.ensures.writes);
+          (writes_then _ _ _ _ _ _ _ _ _ c.in_ok-put_byte.ensures.writes c.put_byte-2.ensures.writes);
       same = search rules;
     }

@@ -12,21 +12,21 @@ use Rattle.schedule.proofs.cells.fill_cells.Goals as goal
 pub loop-i-init : goal.loop-i-init
 loop-i-init g c = (c.requires, same_none _ _, refl)
 
-pub returns-in-err-value : goal.returns-in-err-value
-returns-in-err-value g c =
+pub returns-in_err-value : goal.returns-in_err-value
+returns-in_err-value g c =
     let p = err_from_is_err_and c.from-residual.result c.from-residual.ensures.1 in
     let cells = ap (λ (d : Dimensions). d.cells) c.loop-i.invariant.2 in
     let lt : c.loop-i.i < c.loop-i.head.sizes.cells = omega (arith, cells, c.loop-i-test.true) in
-    let bad = cell_bad g.K.Kind.form (lines_of c.args.text.now) c.loop-i.i (filling_of c.loop-i.head) (contents_of _ c.loop-i.t) c.loop-i.reader (lines_of c.loop-i.rest.now) c.in-err-value.field-0.0
-    c.loop-i.invariant.0 lt c.in-err-value.ensures in
+    let bad = cell_bad g.K.Kind.form (lines_of c.args.text.now) c.loop-i.i (filling_of c.loop-i.head) (contents_of _ c.loop-i.t) c.loop-i.reader (lines_of c.loop-i.rest.now) c.in_err-value.field-0.0
+    c.loop-i.invariant.0 lt c.in_err-value.ensures in
     record {
       same = c.loop-i.invariant.1;
       sizes = c.loop-i.invariant.2;
       read = rw (p.1, p.2) (rw cells at bad);
     }
 
-pub fill-next-requires : goal.fill-next-requires
-fill-next-requires g c =
+pub fill_next-requires : goal.fill_next-requires
+fill_next-requires g c =
     let cells = ap (λ (d : Dimensions). d.cells) c.loop-i.invariant.2 in
     (c.loop-i.invariant.0.tables_fit, omega (arith, cells, c.loop-i-test.true, c.loop-i.invariant.0.counted))
 
@@ -34,12 +34,12 @@ pub loop-i-preserved : goal.loop-i-preserved
 loop-i-preserved g c =
     let cells = ap (λ (d : Dimensions). d.cells) c.loop-i.invariant.2 in
     let lt : c.loop-i.i < c.loop-i.head.sizes.cells = omega (arith, cells, c.loop-i-test.true) in
-    let line = c.in-ok-value.ensures in (
-      cell_filled g.K.Kind.form (lines_of c.args.text.now) c.loop-i.i (filling_of c.loop-i.head) (filling_of c.fill-next.new.head) (contents_of _ c.loop-i.t) (contents_of _ c.fill-next.new.t)
-          c.loop-i.reader c.cell-line.new.reader (lines_of c.loop-i.rest.now) (lines_of c.in-ok-value.after.now) c.in-ok-value.value
-          c.loop-i.invariant.0 lt line.0 line.1 c.fill-next.ensures.filled c.fill-next.ensures.contents,
-      same_then _ _ _ _ c.loop-i.invariant.1 c.fill-next.ensures.same,
-      ap (λ (h : FillingHead). h.sizes) c.fill-next.ensures.filled ∙ c.loop-i.invariant.2,
+    let line = c.in_ok-value.ensures in (
+      cell_filled g.K.Kind.form (lines_of c.args.text.now) c.loop-i.i (filling_of c.loop-i.head) (filling_of c.fill_next.new.head) (contents_of _ c.loop-i.t) (contents_of _ c.fill_next.new.t)
+          c.loop-i.reader c.cell_line.new.reader (lines_of c.loop-i.rest.now) (lines_of c.in_ok-value.after.now) c.in_ok-value.value
+          c.loop-i.invariant.0 lt line.0 line.1 c.fill_next.ensures.filled c.fill_next.ensures.contents,
+      same_then _ _ _ _ c.loop-i.invariant.1 c.fill_next.ensures.same,
+      ap (λ (h : FillingHead). h.sizes) c.fill_next.ensures.filled ∙ c.loop-i.invariant.2,
     )
 
 pub returns : goal.returns
