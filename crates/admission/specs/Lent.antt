@@ -7,8 +7,7 @@ use Rattle.rules.specs.declared.tables.Tables.{Tables}
 use Rattle.rules.specs.declared.calls.Call.{Call}
 use Rattle.rules.specs.declared.calls.Answer.{Answer}
 use Rattle.rules.specs.Limits.{top}
-use Rattle.rules.specs.Heads.{started_of}
-use Rattle.rules.specs.Contents.{contents_of, Fits}
+use Rattle.rules.specs.Contents.{Fits}
 use Rattle.rules.specs.Refusing.{Tests, size_tests}
 use Rattle.rules.specs.Registers.{register_of, Register, low_of, high_of}
 use Rattle.rules.specs.JobCalls.{call_tests}

@@ -1,11 +1,11 @@
 -- Where the tables fit the head, only the tests after those of the sizes can refuse a call.
-use Rattle.std.proofs.Common.{◌≡◌, ◌*◌, ◌<◌, Bool, true, false, cond, not, eqb, [], ◌∷◌, ◌++◌, length, Ok, Err, Option, refl, ap, ◌∙◌, arith, eq-eqb, ne_eqb}
+use Rattle.std.proofs.Common.{◌≡◌, ◌*◌, ◌<◌, Bool, false, not, eqb, [], ◌∷◌, ◌++◌, length, Ok, Err, Option, ap, ◌∙◌, arith, eq-eqb, ne_eqb}
 use Rattle.terms.specs.declared.refusals.Refusal.{Refusal}
 use Rattle.terms.specs.declared.refusals.Refusal.TheVariants.{NoCell, NotFilled}
 use Rattle.rules.specs.Heads.{Dimensions, FillingHead}
 use Rattle.rules.specs.Contents.{Contents, Fits}
 use Rattle.rules.specs.Refusing.{Tests, first_refusal, if_refused, size_tests}
-use Rattle.rules.specs.Making.{FillOutcome, StartOutcome, fill_outcome, start_outcome, fill_tests, start_tests, one_more_filled, with_value, fresh_head, fresh_contents}
+use Rattle.rules.specs.Making.{FillOutcome, StartOutcome, fill_outcome, start_outcome, one_more_filled, with_value, fresh_head, fresh_contents}
 
 pub sizes_pass : {V : Type 0} (sizes : Dimensions) (t : Contents V) (tests : Tests) → Fits sizes t → first_refusal (size_tests sizes t ++ tests) ≡ first_refusal tests
 sizes_pass sizes t tests h =

@@ -1,5 +1,5 @@
 -- What the calls of making, fill and start, answer and leave.
-use Rattle.std.specs.Prelude.{◌≡◌, ℕ, ◌+◌, ◌*◌, not, [], ◌∷◌, ◌++◌, set, replicate, Ok, Err, Result, ◌==◌, slice_set}
+use Rattle.std.specs.Prelude.{◌≡◌, ℕ, ◌+◌, ◌*◌, not, [], ◌∷◌, ◌++◌, replicate, Ok, Err, Result, ◌==◌, slice_set}
 use Rattle.terms.specs.declared.refusals.Refusal.{Refusal}
 use Rattle.terms.specs.declared.refusals.Refusal.TheVariants.{NoCell, NotFilled}
 use Rattle.rules.specs.declared.head.Filling.{Filling}

@@ -1,5 +1,5 @@
 -- How a call is refused: by the first of its tests that holds.
-use Rattle.std.specs.Prelude.{ℕ, ◌*◌, Bool, cond, not, List, [], ◌∷◌, length, Some, None, Option, ◌==◌}
+use Rattle.std.specs.Prelude.{◌*◌, Bool, cond, not, List, [], ◌∷◌, length, Some, None, Option, ◌==◌}
 use Rattle.terms.specs.declared.refusals.Refusal.{Refusal}
 use Rattle.terms.specs.declared.refusals.Refusal.TheVariants.{WrongTable}
 use Rattle.terms.specs.declared.refusals.TableName.TheVariants.{Values, WrittenPlaces, ReadPlaces, JobRecords, OwnValues, Flags, Book}

@@ -1,5 +1,5 @@
 -- One field more of a value that is being read.
-use Rattle.std.proofs.Common.{◌≡◌, ℕ, suc, ◌+◌, ◌-◌, ◌<◌, List, Some, None, Ok, Err, Option, Result, ap, ◌∙◌, arith}
+use Rattle.std.proofs.Common.{◌≡◌, ℕ, suc, ◌+◌, ◌-◌, ◌<◌, List, Some, None, Err, Option, Result, ap, ◌∙◌, arith}
 use Rattle.terms.specs.declared.refusals.BadField.{BadField}
 use Rattle.terms.specs.declared.refusals.Cause.TheVariants.{NoNumber, OutOfRange}
 use Rattle.text.specs.Numbers.{number_in}

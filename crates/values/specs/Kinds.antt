@@ -1,5 +1,5 @@
 -- The two kinds of value.
-use Rattle.std.specs.Prelude.{ℕ, zero, suc, Bool, cond, ◌&&◌, List, [], ◌∷◌, Some, None, Option, nat_le}
+use Rattle.std.specs.Prelude.{ℕ, zero, suc, Bool, cond, ◌&&◌, [], ◌∷◌, Some, None, Option, nat_le}
 use Rattle.values.specs.declared.records.Card.{Card}
 use Rattle.values.specs.declared.records.Dial.{Dial}
 use Rattle.values.specs.Forms.{Form}

@@ -1,6 +1,5 @@
 use Rattle.std.proofs.Common.{◌+◌, ◌-◌, ◌<◌, ◌≤◌, length, set, ap, ◌∙◌, arith, rules}
 use Rattle.std.proofs.lemmas.Bool.{and_from, cond-true, lt-ltb}
-use Rattle.rules.specs.Tables.{cleared}
 use Rattle.rules.specs.Registers.{register_of}
 use Rattle.endings.proofs.Ended.{ended_all, cleared_from}
 use Rattle.endings.proofs.ending.end_job.Goals as goal

@@ -1,6 +1,5 @@
-use Rattle.std.proofs.Common.{◌≡◌, ◌+◌, ◌-◌, ◌<◌, Some, sym, ap, ◌∙◌, arith}
+use Rattle.std.proofs.Common.{◌+◌, ◌-◌, ◌<◌, sym, ap, ◌∙◌, arith}
 use Rattle.text.specs.Numbers.{number_in}
-use Rattle.text.specs.Split.{before}
 use Rattle.values.specs.Forms.{read_from}
 use Rattle.values.proofs.Steps.{no_number, out_of_range, goes_on}
 use Rattle.values.proofs.reading.read_value.Goals as goal
