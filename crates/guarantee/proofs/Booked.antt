@@ -1,5 +1,5 @@
 -- The day book against the history: it names just the ended jobs, in ascending places.
-use Rattle.std.proofs.Common.{◌≡◌, ℕ, suc, ◌+◌, Bool, true, false, cond, eqb, ◌⊎◌, List, [], ◌∷◌, ◌++◌, is_some, Some, None, sym, refl, ap, ◌∙◌, inl, inr, arith}
+use Rattle.std.proofs.Common.{◌≡◌, ℕ, suc, Bool, true, false, cond, eqb, ◌⊎◌, List, [], ◌∷◌, ◌++◌, is_some, Some, None, sym, refl, ap, ◌∙◌, inl, inr, arith}
 use Rattle.std.proofs.lemmas.Bool.{eqb-true, eq-eqb, ne_eqb, both_ways}
 use Rattle.terms.specs.declared.records.Ending.TheVariants.{Abandoned, Committed}
 use Rattle.terms.specs.declared.records.Entry.{Entry}
@@ -14,7 +14,6 @@ use Rattle.history.proofs.Moments.{active_uncommitted, none_some, unopened_proje
 use Rattle.history.proofs.Rows.{Distinct, in_cases, in_nil}
 use Rattle.history.proofs.Tracking.{active_unplaced}
 use Rattle.rules.specs.Performing.{All, Ascending, NotAbove}
-use Rattle.rules.specs.Tables.{at}
 use Rattle.guarantee.specs.Opacity.{Names, has_ended, order_of}
 use Rattle.guarantee.proofs.Orders.{all_map, all_mid, ascending_mid, distinct_mid, in_either, in_mid_here, in_mid_keeps, order_of_append, order_of_mid}
 

@@ -1,5 +1,5 @@
 -- The two lists of specs/Examples.
-use Rattle.std.proofs.Common.{ℕ, ◌≤◌, [], ◌∷◌, refl, lit≤}
+use Rattle.std.proofs.Common.{ℕ, [], ◌∷◌, refl, lit≤}
 use Rattle.choosers.specs.Lawful.{script_lawful}
 use Rattle.choosers.specs.Script.{script_meaning}
 use Rattle.history.proofs.Alike.{answers_aside}

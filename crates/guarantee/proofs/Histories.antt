@@ -12,22 +12,22 @@ use Rattle.guarantee.specs.Histories.{AnswerIsTrue, HistoriesAreTrue, RefusalIsT
 use Rattle.guarantee.proofs.Passing.{outcome_by, wrong_table}
 
 module _ {V : Type 0} (d : V) (pick : ℕ → ℕ → ℕ) (r : Register V) where
-  abbrev True-of : Call V → Outcome V → Type 0
-  True-of k o = AnswerIsTrue pick r k o o.answer
+  abbrev TrueOf : Call V → Outcome V → Type 0
+  TrueOf k o = AnswerIsTrue pick r k o o.answer
 
-  refused_true : (k : Call V) (e : Refusal) → operation_refused {V = V} e ≡ None → True-of k (refused e r)
+  refused_true : (k : Call V) (e : Refusal) → operation_refused {V = V} e ≡ None → TrueOf k (refused e r)
   refused_true k e q = subst (λ (step : Option (Operation V V ℕ)). RefusalIsTrue pick r k (refused e r) e step) (sym q) refl
 
-  accepted_true : (k : Call V) → True-of k (accepted d pick r k)
+  accepted_true : (k : Call V) → TrueOf k (accepted d pick r k)
   accepted_true (Open w) = (opens, refl, refl)
-  accepted_true (Read w c) = cond_both (has_written r w.0 c.0) _ _ (True-of (Read w c)) (λ e. (reads c.0 _, refl, refl))
-      (λ e. cond_both (ltb (high_of r w.0) (raised_low r w.0 c.0 + 2)) _ _ (True-of (Read w c)) (λ l. (refl, refl)) (λ l. (reads c.0 _, refl, refl)))
+  accepted_true (Read w c) = cond_both (has_written r w.0 c.0) _ _ (TrueOf (Read w c)) (λ e. (reads c.0 _, refl, refl))
+      (λ e. cond_both (ltb (high_of r w.0) (raised_low r w.0 c.0 + 2)) _ _ (TrueOf (Read w c)) (λ l. (refl, refl)) (λ l. (reads c.0 _, refl, refl)))
   accepted_true (Write w c v) = (writes c.0 v, refl, refl)
-  accepted_true (Commit w) = cond_both (ltb (high_of r w.0) (commit_low r w.0 + 2)) _ _ (True-of (Commit w)) (λ l. (refl, refl)) (λ l. (commits _, refl, refl))
+  accepted_true (Commit w) = cond_both (ltb (high_of r w.0) (commit_low r w.0 + 2)) _ _ (TrueOf (Commit w)) (λ l. (refl, refl)) (λ l. (commits _, refl, refl))
   accepted_true (Abandon w) = (abandons _, refl, refl)
 
 pub histories_are_true : (V : Type 0) → HistoriesAreTrue V
 histories_are_true V = record {
-  answers = λ d pick r k. outcome_by (True-of d pick r k) d pick r k (refused_true d pick r k) (λ ns. accepted_true d pick r k);
+  answers = λ d pick r k. outcome_by (TrueOf d pick r k) d pick r k (refused_true d pick r k) (λ ns. accepted_true d pick r k);
   wrong_tables = wrong_table;
 }

@@ -14,7 +14,6 @@ use Rattle.history.specs.Events.{History, Operation, ends_at, open_job, openings
 use Rattle.history.specs.Events.Event.{by}
 use Rattle.history.specs.Views.{Accepts, RegisterView, ViewRun, fresh_view, view_after}
 use Rattle.history.specs.WellMade.{WellMade}
-use Rattle.history.proofs.Rows.{distinct}
 use Rattle.history.proofs.Viewing.{run_facts}
 use Rattle.rules.specs.Contents.{closed_record}
 use Rattle.rules.specs.JobCalls.{Outcome, abandon_outcome, abandoned_at, accepted, commit_low, committed_at, crew_of, entry_of, open_outcome, outcome, raised_low, read_cell, refused, tests_of, write_outcome}

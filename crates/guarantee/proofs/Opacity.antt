@@ -1,5 +1,5 @@
 -- The day book's order explains what the ended jobs were told, and with the open jobs sorted in it explains what all were told.
-use Rattle.std.proofs.Common.{◌≡◌, ℕ, zero, suc, ◌+◌, ◌<◌, ◌≤◌, Bool, true, false, cond, eqb, leb, ◌⊎◌, List, [], ◌∷◌, ◌++◌, is_some, Option, sym, refl, ap, ◌∙◌, inl, inr, arith, lit≤}
+use Rattle.std.proofs.Common.{◌≡◌, ℕ, zero, suc, ◌<◌, ◌≤◌, Bool, true, false, cond, eqb, leb, ◌⊎◌, List, [], ◌∷◌, ◌++◌, is_some, Option, sym, refl, ap, ◌∙◌, inl, inr, arith, lit≤}
 use native.Mathlib.Decide.{dec_le}
 use Rattle.std.proofs.lemmas.Bool.{eqb-true, eqb-false, both_ways}
 use Rattle.terms.specs.declared.records.Entry.{Entry}
@@ -13,7 +13,7 @@ use Rattle.history.specs.Precedence.Extends.{here, later}
 use Rattle.history.specs.Projections.{WellFormed, end_place, is_committed, projection}
 use Rattle.history.specs.SerialExecution.{SeriallyExplained, execute_serially}
 use Rattle.history.specs.Values.{ReadsCurrent}
-use Rattle.history.specs.Views.{bounds_of, closed}
+use Rattle.history.specs.Views.{bounds_of}
 use Rattle.history.specs.WellMade.{WellMade}
 use Rattle.history.proofs.Crews.{well_formed}
 use Rattle.history.proofs.Moments.{projection_zero, unopened_projection, well_formed_tail}

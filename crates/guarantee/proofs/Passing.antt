@@ -12,7 +12,6 @@ use Rattle.rules.specs.JobCalls.{Outcome, accepted, call_tests, crew_of, damaged
 use Rattle.rules.specs.Limits.{top}
 use Rattle.rules.specs.Refusing.{Tests, first_refusal, if_refused, size_tests}
 use Rattle.rules.specs.Registers.{Register, has_job, high_of, low_of}
-use Rattle.rules.specs.Tables.{at}
 use Rattle.rules.specs.declared.calls.Call.{Call}
 use Rattle.rules.specs.declared.calls.Call.TheVariants.{Open}
 use Rattle.rules.proofs.Changing.{inside}

@@ -79,12 +79,12 @@ performed_run d s f₀ (Performed.then g p) = Run.then (performed_run d s f₀ g
 
 ---- There is a run
 
-record Sound-run {V : Type 0} (d : V) (s : Register V) (f₀ : Meaning) (ks : List (Call V)) : Type 0 where
+record SoundRun {V : Type 0} (d : V) (s : Register V) (f₀ : Meaning) (ks : List (Call V)) : Type 0 where
   run : RunOf d s f₀ ks
   sound : SoundHead run.register.head
   keeps : KeepsLaw run.meaning
 
-one_more : {V : Type 0} (d : V) (s : Register V) (f₀ : Meaning) (k : Call V) (ks : List (Call V)) → Sound-run d s f₀ ks → Sound-run d s f₀ (k ∷ ks)
+one_more : {V : Type 0} (d : V) (s : Register V) (f₀ : Meaning) (k : Call V) (ks : List (Call V)) → SoundRun d s f₀ ks → SoundRun d s f₀ (k ∷ ks)
 one_more {V} d s f₀ k ks g =
     let r = g.run.register in
     let f = g.run.meaning in
@@ -96,7 +96,7 @@ one_more {V} d s f₀ k ks g =
       keeps = subst KeepsLaw (sym p.3.asks) (keeps_on f (outcome d (f []) r k).asked g.keeps);
     }
 
-sound_run : {V : Type 0} (d : V) (s : Register V) (f₀ : Meaning) → SoundHead s.head → KeepsLaw f₀ → (ks : List (Call V)) → Sound-run d s f₀ ks
+sound_run : {V : Type 0} (d : V) (s : Register V) (f₀ : Meaning) → SoundHead s.head → KeepsLaw f₀ → (ks : List (Call V)) → SoundRun d s f₀ ks
 sound_run d s f₀ so ke [] = record { run = record { log = []; register = s; meaning = f₀; performed = Performed.starts; whole = refl }; sound = so; keeps = ke }
 sound_run d s f₀ so ke (k ∷ ks) = one_more d s f₀ k ks (sound_run d s f₀ so ke ks)
 
@@ -116,12 +116,12 @@ module _ {V : Type 0} (d : V) (s : Register V) (j : JustStarted s.head s.tables)
   at_first : (f₀ : Meaning) → Abreast d s (fresh_view (cell_values d s) (own_of d s)) f₀ s f₀
   at_first f₀ = record { tie = start_tie d s j; same_sizes = refl; means = refl }
 
-  abbrev Accepted-by : Meaning → History V → RegisterView V → Meaning → Type 0
-  Accepted-by f₀ run view g = RunWith f₀ (sizes_of s) (cell_values d s) (own_of d s) run view g
+  abbrev AcceptedBy : Meaning → History V → RegisterView V → Meaning → Type 0
+  AcceptedBy f₀ run view g = RunWith f₀ (sizes_of s) (cell_values d s) (own_of d s) run view g
 
   -- along what the view accepts, every call of the register is accepted
   abreast : (f₀ : Meaning) {log : List (Step V)} {r : Register V} {f : Meaning} → Performed d s f₀ log r f →
-      {run : History V} {view : RegisterView V} {g : Meaning} → Alike run (events_of (made_by log)) → Accepted-by f₀ run view g → AllAccepted log × Abreast d s view g r f
+      {run : History V} {view : RegisterView V} {g : Meaning} → Alike run (events_of (made_by log)) → AcceptedBy f₀ run view g → AllAccepted log × Abreast d s view g r f
   abreast f₀ Performed.starts none RunWith.starts = (tt, at_first f₀)
   abreast f₀ (Performed.then {r = r} {f = f} {k = k} {a = a} {r' = r'} {f' = f'} pf p) (more m al) (RunWith.goes_on {s = view} {f = g} sv now) =
       let ih = abreast f₀ pf al sv in
@@ -129,8 +129,8 @@ module _ {V : Type 0} (d : V) (s : Register V) (j : JustStarted s.head s.tables)
       ((q.0, ih.0), q.1)
 
   -- where the view accepts a list, it accepts each older part of it
-  older : (f₀ : Meaning) {ks js : List (Call V)} → Extends ks js → {run : History V} {view : RegisterView V} {g : Meaning} → Alike run (events_of ks) → Accepted-by f₀ run view g →
-      (run' : History V) × (view' : RegisterView V) × (g' : Meaning) × Alike run' (events_of js) × Accepted-by f₀ run' view' g'
+  older : (f₀ : Meaning) {ks js : List (Call V)} → Extends ks js → {run : History V} {view : RegisterView V} {g : Meaning} → Alike run (events_of ks) → AcceptedBy f₀ run view g →
+      (run' : History V) × (view' : RegisterView V) × (g' : Meaning) × Alike run' (events_of js) × AcceptedBy f₀ run' view' g'
   older f₀ here {run = run} {view = view} {g = g} al sv = (run, view, g, al, sv)
   older f₀ (later t) (more m al) (RunWith.goes_on sv now) = older f₀ t al sv
 

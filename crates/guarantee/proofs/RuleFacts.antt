@@ -7,8 +7,6 @@ use Rattle.terms.specs.declared.records.Entry.{Entry}
 use Rattle.terms.specs.declared.refusals.Refusal.{Refusal}
 use Rattle.terms.specs.declared.refusals.Refusal.TheVariants.{NoPlace, Stale}
 use Rattle.choosers.specs.Meaning.{KeepsLaw, Meaning}
-use Rattle.history.specs.WellMade.{asked}
-use Rattle.history.proofs.Alike.Alike.{none}
 use Rattle.rules.specs.JobCalls.{Outcome, abandon_outcome, accepted, commit_low, committed_at, other_reader, outcome, raised_low, read_cell, tests_of, touches}
 use Rattle.rules.specs.Limits.{top}
 use Rattle.rules.specs.Performing.{All, Ascending, Entered, Inserted, NotAbove, Performs, moved_if, with_book}
@@ -20,7 +18,6 @@ use Rattle.rules.specs.declared.calls.Call.{Call}
 use Rattle.rules.specs.declared.calls.Call.TheVariants.{Abandon, Commit, Open, Read, Write}
 use Rattle.rules.proofs.Changing.{inside, most_at, most_least, spot_in}
 use Rattle.guarantee.specs.RuleFacts.{AtLeastEach, CommitBoundIsLargest, EveryCallCanBePerformed, NoOutcomeDependsOnDefault, ReadsWritten, SoundHead}
-use Rattle.guarantee.proofs.Invariant.{performed}
 use Rattle.guarantee.proofs.Opacity.{b}
 use Rattle.guarantee.proofs.Passing.{NoneOf, Sized, Working, cell_passes, free, outcome_by, same_outcome, sized, working}
 

@@ -17,7 +17,7 @@ use Rattle.rules.specs.Performing.{All}
 use Rattle.rules.specs.Refusing.{first_refusal, if_refused}
 use Rattle.rules.specs.Registers.{Register, has_job, has_written, high_of, own_of, record_of}
 use Rattle.rules.specs.Runs.{Run, Step}
-use Rattle.rules.specs.Tables.{at, outside}
+use Rattle.rules.specs.Tables.{outside}
 use Rattle.rules.specs.declared.calls.Answer.{Answer}
 use Rattle.rules.specs.declared.calls.Call.{Call}
 use Rattle.rules.specs.declared.calls.Call.TheVariants.{Abandon, Commit, Open, Read, Write}

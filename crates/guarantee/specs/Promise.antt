@@ -1,8 +1,6 @@
 -- The whole promise, of calls that were made one after the other: what the contract of a call that makes them can cite.
-use Rattle.std.specs.Prelude.{List, [], ◌∷◌, Result}
-use Rattle.terms.specs.declared.refusals.Refusal.{Refusal}
+use Rattle.std.specs.Prelude.{List, [], ◌∷◌}
 use Rattle.choosers.specs.Meaning.{Meaning, KeepsLaw}
-use Rattle.rules.specs.declared.calls.Answer.{Answer}
 use Rattle.rules.specs.declared.calls.Call.{Call}
 use Rattle.rules.specs.Making.{JustStarted}
 use Rattle.rules.specs.Registers.{Register}
@@ -22,7 +20,7 @@ pub record Promise {V : Type 0} (d : V) (s : Register V) (f₀ : Meaning) (log :
   pub performed : Performed d s f₀ log r f
   -- where s was just started, the day book explains the ended jobs, and the open ones fit in, at every moment of these very calls
   pub opaque : JustStarted s.head s.tables → AtEveryMoment (Explained d s) performed
-  -- and of every well_made list of calls on s: it has a serialization order exactly when some script has every call of it accepted
+  -- and of every well-made list of calls on s: it has a serialization order exactly when some script has every call of it accepted
   pub permissive : JustStarted s.head s.tables → (ks : List (Call V)) → WellMadeCalls s.head.sizes ks → IsPermissive d s ks
 
 -- the promise is kept by whatever calls were performed by the rules, with every chooser that keeps the law

@@ -1,6 +1,8 @@
 #![tactic(auto)]
 
 // What the rules promise: theorems on every run of job calls, each the contract of a function that does nothing.
+#![tactic(auto)]
+
 ghost use Rattle.guarantee.specs.RuleFacts.{NoOutcomeDependsOnDefault, EveryCallCanBePerformed, CommitBoundIsLargest};
 ghost use Rattle.guarantee.specs.Histories.{HistoriesAreTrue};
 ghost use Rattle.guarantee.specs.Opacity.{EveryRunIsOpaque, EveryMomentIsOpaque};

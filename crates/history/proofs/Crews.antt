@@ -1,4 +1,4 @@
--- From crews to jobs: a well_made run of crews is a well_formed history of jobs, and each open job is one crew's.
+-- From crews to jobs: a well-made run of crews is a well-formed history of jobs, and each open job is one crew's.
 use Rattle.std.proofs.Common.{◌≡◌, ℕ, zero, suc, ◌≤◌, Bool, true, false, cond, ◌&&◌, eqb, List, [], ◌∷◌, sym, refl, ap, ◌∙◌, arith}
 use Rattle.std.proofs.lemmas.Bool.{eqb-true, eqb-false, eq-eqb, ne_eqb, both_ways}
 use Rattle.history.specs.Events.{Operation, Event, Events, History, is_opening, is_ending, openings, open_job, by_jobs, crew_of}

@@ -176,7 +176,7 @@ module _ {V : Type 0} where
   end_place_other : (h : History V) (x y : ℕ) (d : Operation V V ℕ) → (x ≡ y → ⊥) → end_place (projection (by x d ∷ h) y) ≡ end_place (projection h y)
   end_place_other h x y d n = rw (ne_eqb x y n)
 
-  module _ (h : History V) (b : Bounds) (x : ℕ) (d : Operation V V ℕ) (b' : Bounds) (wf : WellFormed (by x d ∷ h)) (tracked-before : Tracked h b) (mv : Moves h b x d b') where
+  module _ (h : History V) (b : Bounds) (x : ℕ) (d : Operation V V ℕ) (b' : Bounds) (wf : WellFormed (by x d ∷ h)) (tracked_before : Tracked h b) (mv : Moves h b x d b') where
     -- a place that a job has now: it had it, or this event gave it
     place_cases : (z p : ℕ) → end_place (projection (by x d ∷ h) z) ≡ Some p → (end_place (projection h z) ≡ Some p) ⊎ ((x ≡ z) × (ends_at d ≡ Some p))
     place_cases z p q = go (end_place (projection h z)) refl
@@ -189,7 +189,7 @@ module _ {V : Type 0} where
     highest_now z p q = go (place_cases z p q)
       where
         go : (end_place (projection h z) ≡ Some p) ⊎ ((x ≡ z) × (ends_at d ≡ Some p)) → p ≤ b'.highest
-        go (inl e) = omega (arith, tracked-before.below_highest z p e, mv.highest_up)
+        go (inl e) = omega (arith, tracked_before.below_highest z p e, mv.highest_up)
         go (inr e) = (mv.ends p e.1).0
 
     written_now : (z c p : ℕ) → CommittedCell (by x d ∷ h) z c → end_place (projection (by x d ∷ h) z) ≡ Some p → p ≤ b'.written c
@@ -203,7 +203,7 @@ module _ {V : Type 0} where
         fresh_commit (abandons q) e m s = absurd m
 
         go : (end_place (projection h z) ≡ Some p) ⊎ ((x ≡ z) × (ends_at d ≡ Some p)) → CommitsNow (by x d) h z c ⊎ CommittedCell h z c → p ≤ b'.written c
-        go (inl e) (inr m) = omega (arith, tracked-before.below_written z c p m e, mv.written_up c)
+        go (inl e) (inr m) = omega (arith, tracked_before.below_written z c p m e, mv.written_up c)
         go (inl e) (inl m) = none_some p (sym (acting_unplaced h x d wf) ∙ rw (commits_by h x z c d m) e)
         go (inr e) (inl m) = fresh_commit d e.1 m mv.sees_to
         go (inr e) (inr m) = let k = committed_place h z c m in none_some k.0 (sym (acting_unplaced h x d wf) ∙ (rw e.0 k.1))
@@ -212,7 +212,7 @@ module _ {V : Type 0} where
     read_now z c p k q = go (place_cases z p q) (read_cases z c (by x d) h k)
       where
         go : (end_place (projection h z) ≡ Some p) ⊎ ((x ≡ z) × (ends_at d ≡ Some p)) → ReadsNow (by x d) h z c ⊎ ReadGlobally h z c → p ≤ b'.read c
-        go (inl e) (inr m) = omega (arith, tracked-before.below_read z c p m e, mv.read_up c)
+        go (inl e) (inr m) = omega (arith, tracked_before.below_read z c p m e, mv.read_up c)
         go (inl e) (inl m) = none_some p (sym (acting_unplaced h x d wf) ∙ rw (reads_by h x z c d m).0 e)
         go (inr e) (inl m) = none_some p (sym (reads_by h x z c d m).1 ∙ e.1)
         go (inr e) (inr m) = (mv.ends p e.1).1 c (rw e.0 m)
@@ -229,45 +229,45 @@ module _ {V : Type 0} where
     had_some y p q e n k = apart_some_some _ _ (b'.low y) (b'.high y) (b'.low x) (b'.high x) p q
         (closes_later _ _ (b.low y) (b.high y) (b'.low y) (b'.high y) (mv.closes_in y) p e) (end_place_own h x d ∙ n) k
 
-  now_apart : (h : History V) (b : Bounds) (x : ℕ) (d : Operation V V ℕ) (b' : Bounds) (wf : WellFormed (by x d ∷ h)) (tracked-before : Tracked h b) (mv : Moves h b x d b') →
-      (y z : ℕ) → (y ≡ z → ⊥) → PrecedesNow (by x d) h y z → ApartNow h b x d b' wf tracked-before mv y z
-  now_apart h b x opens b' wf tracked-before mv y z ne (e, en) =
+  now_apart : (h : History V) (b : Bounds) (x : ℕ) (d : Operation V V ℕ) (b' : Bounds) (wf : WellFormed (by x d ∷ h)) (tracked_before : Tracked h b) (mv : Moves h b x d b') →
+      (y z : ℕ) → (y ≡ z → ⊥) → PrecedesNow (by x d) h y z → ApartNow h b x d b' wf tracked_before mv y z
+  now_apart h b x opens b' wf tracked_before mv y z ne (e, en) =
       let k = ended_place h y en in
-      subst (λ w. ApartNow h b x opens b' wf tracked-before mv y w) e
-      (had_none h b x opens b' wf tracked-before mv y k.0 k.1 (acting_unplaced h x opens wf) (omega (arith, tracked-before.below_highest y k.0 k.1, mv.sees_to)))
-  now_apart h b x (reads c v) b' wf tracked-before mv y z ne (e, n, m) =
+      subst (λ w. ApartNow h b x opens b' wf tracked_before mv y w) e
+      (had_none h b x opens b' wf tracked_before mv y k.0 k.1 (acting_unplaced h x opens wf) (omega (arith, tracked_before.below_highest y k.0 k.1, mv.sees_to)))
+  now_apart h b x (reads c v) b' wf tracked_before mv y z ne (e, n, m) =
       let k = committed_place h y c m in
-      subst (λ w. ApartNow h b x (reads c v) b' wf tracked-before mv y w) e
-      (had_none h b x (reads c v) b' wf tracked-before mv y k.0 k.1 (acting_unplaced h x (reads c v) wf) (omega (arith, tracked-before.below_written y c k.0 m k.1, mv.sees_to (rw e n))))
-  now_apart h b x (writes c v) b' wf tracked-before mv y z ne m = absurd m
-  now_apart h b x (commits p) b' wf tracked-before mv y z ne (e, (c, w, r)) = subst (λ w. ApartNow h b x (commits p) b' wf tracked-before mv y w) e (go r (end_place (projection h y)) refl)
+      subst (λ w. ApartNow h b x (reads c v) b' wf tracked_before mv y w) e
+      (had_none h b x (reads c v) b' wf tracked_before mv y k.0 k.1 (acting_unplaced h x (reads c v) wf) (omega (arith, tracked_before.below_written y c k.0 m k.1, mv.sees_to (rw e n))))
+  now_apart h b x (writes c v) b' wf tracked_before mv y z ne m = absurd m
+  now_apart h b x (commits p) b' wf tracked_before mv y z ne (e, (c, w, r)) = subst (λ w. ApartNow h b x (commits p) b' wf tracked_before mv y w) e (go r (end_place (projection h y)) refl)
     where
       w' : Wrote h x c
       w' = rw e w
 
-      go : ReadGlobally h y c ⊎ CommittedCell h y c → (o : Option ℕ) → end_place (projection h y) ≡ o → ApartNow h b x (commits p) b' wf tracked-before mv y x
-      go (inl m) (Some q) f = had_some h b x (commits p) b' wf tracked-before mv y q p f refl (omega (arith, tracked-before.below_read y c q m f, (mv.sees_to c w').1))
+      go : ReadGlobally h y c ⊎ CommittedCell h y c → (o : Option ℕ) → end_place (projection h y) ≡ o → ApartNow h b x (commits p) b' wf tracked_before mv y x
+      go (inl m) (Some q) f = had_some h b x (commits p) b' wf tracked_before mv y q p f refl (omega (arith, tracked_before.below_read y c q m f, (mv.sees_to c w').1))
       go (inl m) None f =
           apart_none_some _ _ (b'.low y) (b'.high y) (b'.low x) (b'.high x) p (end_place_other h x y (commits p) (λ q. ne (sym q ∙ e)) ∙ f)
           (end_place_own h x (commits p)) ((mv.sees_to c w').3 y (λ q. ne (q ∙ e)) m f)
-      go (inr m) (Some q) f = had_some h b x (commits p) b' wf tracked-before mv y q p f refl (omega (arith, tracked-before.below_written y c q m f, (mv.sees_to c w').0))
+      go (inr m) (Some q) f = had_some h b x (commits p) b' wf tracked_before mv y q p f refl (omega (arith, tracked_before.below_written y c q m f, (mv.sees_to c w').0))
       go (inr m) None f = let k = committed_place h y c m in none_some k.0 (sym f ∙ k.1)
-  now_apart h b x (abandons p) b' wf tracked-before mv y z ne m = absurd m
+  now_apart h b x (abandons p) b' wf tracked_before mv y z ne m = absurd m
 
   pub tracked_step : (h : History V) (b : Bounds) (x : ℕ) (d : Operation V V ℕ) (b' : Bounds) → WellFormed (by x d ∷ h) → Tracked h b → Moves h b x d b' → Tracked (by x d ∷ h) b'
-  tracked_step h b x d b' wf tracked-before mv = record {
+  tracked_step h b x d b' wf tracked_before mv = record {
     placed = record { apart = λ y z ne k. go y z ne (precedes_cases y z (by x d) h k); room = mv.room };
-    below_highest = highest_now h b x d b' wf tracked-before mv;
-    below_written = written_now h b x d b' wf tracked-before mv;
-    below_read = read_now h b x d b' wf tracked-before mv;
+    below_highest = highest_now h b x d b' wf tracked_before mv;
+    below_written = written_now h b x d b' wf tracked_before mv;
+    below_read = read_now h b x d b' wf tracked_before mv;
   }
     where
-      go : (y z : ℕ) → (y ≡ z → ⊥) → PrecedesNow (by x d) h y z ⊎ Precedes h y z → ApartNow h b x d b' wf tracked-before mv y z
-      go y z ne (inl k) = now_apart h b x d b' wf tracked-before mv y z ne k
+      go : (y z : ℕ) → (y ≡ z → ⊥) → PrecedesNow (by x d) h y z ⊎ Precedes h y z → ApartNow h b x d b' wf tracked_before mv y z
+      go y z ne (inl k) = now_apart h b x d b' wf tracked_before mv y z ne k
       go y z ne (inr k) =
           apart_later (end_place (projection h y)) (end_place (projection h z)) (end_place (projection (by x d ∷ h) y)) (end_place (projection (by x d ∷ h) z)) (b.low y)
           (b.high y) (b.low z) (b.high z) (b'.low y) (b'.high y) (b'.low z) (b'.high z) (mv.closes_in y) (mv.closes_in z)
-          (tracked-before.placed.apart y z ne k)
+          (tracked_before.placed.apart y z ne k)
 
   -- a job that has read and has no place is open
   reader_step : (y x : ℕ) (d : Operation V V ℕ) (s : List (Operation V V ℕ)) (b : Bool) → (end_place s ≡ None → is_active s ≡ true) → end_place (cond b (d ∷ s) s) ≡ None →

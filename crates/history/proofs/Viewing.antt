@@ -15,7 +15,7 @@ use Rattle.history.specs.Views.ViewRun.{starts, goes_on}
 use Rattle.history.proofs.Moments.{none_some, buffered_wrote, unbuffered_unwritten, unopened_projection}
 use Rattle.history.proofs.Tracking.{read_cases, reader_active}
 use Rattle.history.proofs.Crews.{openings_by_job, open_job_numbered, one_crew, well_formed}
-use Rattle.history.proofs.Opacity.{tracked, bounds_agree, bounds_opaque}
+use Rattle.history.proofs.Opacity.{bounds_agree, bounds_opaque}
 
 updated_at : {A : Type 0} (f : ℕ → A) (k : ℕ) (v : A) → updated f k v k ≡ v
 updated_at f k v = rw (eq-eqb k k refl)

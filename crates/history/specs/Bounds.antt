@@ -10,10 +10,10 @@ use Rattle.history.specs.Precedence.{Wrote, ReadGlobally, CommittedCell, Precede
 
 -- x before y, by their places: an ended job has one, and an open one will have one above its low and below its high
 abbrev pub PlacedApart : Option ℕ → ℕ → ℕ → Option ℕ → ℕ → ℕ → Type 0
-PlacedApart (Some p) low_x high-x (Some q) low-y high-y = p < q
-PlacedApart (Some p) low_x high-x None low-y high-y = p ≤ low-y
-PlacedApart None low_x high-x (Some q) low-y high-y = high-x ≤ q
-PlacedApart None low_x high-x None low-y high-y = ⊥
+PlacedApart (Some p) low_x high_x (Some q) low_y high_y = p < q
+PlacedApart (Some p) low_x high_x None low_y high_y = p ≤ low_y
+PlacedApart None low_x high_x (Some q) low_y high_y = high_x ≤ q
+PlacedApart None low_x high_x None low_y high_y = ⊥
 
 -- the places and the bounds agree with the four rules, and each open job has room for a place
 pub record Placed {V : Type 0} (h : History V) (low high : ℕ → ℕ) : Type 0 where

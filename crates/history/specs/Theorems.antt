@@ -14,7 +14,7 @@ use Rattle.history.specs.Acceptance.{AcceptedAt, position, positions, Sizes, Run
 
 ---- Serial execution explains what a register told
 
--- a well_made run of crews is a well_formed history of jobs
+-- a well-made run of crews is a well-formed history of jobs
 abbrev pub WellMadeRunsAreWellFormed : Type 0 → Type 0
 WellMadeRunsAreWellFormed V = (run : History V) → WellMade run → WellFormed (by_jobs run)
 
@@ -62,7 +62,7 @@ ViewsAreOpaque V = (first : ℕ → V) (own : ℕ → ℕ → V) (top n : ℕ) (
 abbrev pub AnswersDoNotMatter : Type 0 → Type 0
 AnswersDoNotMatter V = (run : History V) (row : List ℕ) → SerializationOrder (by_jobs run) row ↔ SerializationOrder (by_jobs (calls_of run)) row
 
--- a well_made list has a serialization order if and only if there are places at which a register accepts every call of it
+-- a well-made list has a serialization order if and only if there are places at which a register accepts every call of it
 abbrev pub ViewsArePermissive : Type 0 → Type 0
 ViewsArePermissive V = (first : ℕ → V) (own : ℕ → ℕ → V) (top cells crews entries : ℕ) (calls : Calls V) → entries + 2 ≤ top → WellMadeList cells crews entries calls →
     ((row : List ℕ) × SerializationOrder (by_jobs calls) row) ↔ ((places : List ℕ) × AcceptedAt top cells first own calls places)
@@ -72,7 +72,7 @@ abbrev pub PositionsAreAccepted : Type 0 → Type 0
 PositionsAreAccepted V = (first : ℕ → V) (own : ℕ → ℕ → V) (top cells crews entries : ℕ) (calls : Calls V) → entries + 2 ≤ top → WellMadeList cells crews entries calls →
     (row : List ℕ) → SerializationOrder (by_jobs calls) row → AcceptedAt top cells first own calls (positions (position row) calls)
 
--- a well_made list has a serialization order if and only if there is a script with which a register that asks it for each place accepts every call of the list
+-- a well-made list has a serialization order if and only if there is a script with which a register that asks it for each place accepts every call of the list
 abbrev pub ScriptsArePermissive : Type 0 → Type 0
 ScriptsArePermissive V = (first : ℕ → V) (own : ℕ → ℕ → V) (z : Sizes) (calls : Calls V) → z.entries + 2 ≤ z.top → WellMadeList z.cells z.crews z.entries calls →
     ((row : List ℕ) × SerializationOrder (by_jobs calls) row) ↔ ((numbers : List ℕ) × AcceptedWith (script_meaning numbers) z first own calls)

@@ -42,7 +42,7 @@ abbrev pub InRange : {V R P : Type 0} → ℕ → ℕ → Events V R P → Type 
 InRange cells crews [] = Unit {0}
 InRange cells crews (by w o ∷ run) = UpTo crews w × NamesCell cells o × InRange cells crews run
 
--- a well_made list for a register of so many cells, crews and entries of its day book
+-- a well-made list for a register of so many cells, crews and entries of its day book
 pub record WellMadeList {V : Type 0} (cells crews entries : ℕ) (calls : Calls V) : Type 0 where
   pub orderly : WellMade calls
   pub in_range : InRange cells crews calls

@@ -1,6 +1,8 @@
 #![tactic(auto)]
 
 // Histories of a register's calls, and the theorems about them. The functions return nothing of use: each has a theorem for its contract.
+#![tactic(auto)]
+
 ghost use Rattle.history.specs.Theorems.{WellMadeRunsAreWellFormed, RespectfulOrdersExplain, SerializationOrdersExplain, AscendingRowsAreOrders, PlacesGiveAnOrder};
 ghost use Rattle.history.specs.Theorems.{MovedBoundsAgree, BoundsAreOpaque, ViewsAgree, ViewsAreOpaque};
 ghost use Rattle.history.specs.Theorems.{AnswersDoNotMatter, ViewsArePermissive, PositionsAreAccepted, ScriptsArePermissive, PositionsMakeAScript};
