@@ -1,5 +1,3 @@
-#![tactic(auto)]
-
 // What the rules promise: theorems on every run of job calls, each the contract of a function that does nothing.
 #![tactic(auto)]
 

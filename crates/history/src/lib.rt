@@ -1,5 +1,3 @@
-#![tactic(auto)]
-
 // Histories of a register's calls, and the theorems about them. The functions return nothing of use: each has a theorem for its contract.
 #![tactic(auto)]
 
