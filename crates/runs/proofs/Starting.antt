@@ -1,5 +1,5 @@
 -- What an accepted start leaves.
-use Rattle.std.proofs.Common.{◌≡◌, ℕ, Some, None, Ok, Err, Option, refl, ap, ◌∙◌, arith}
+use Rattle.std.proofs.Common.{◌≡◌, ℕ, Some, None, Ok, Err, Option, ap, ◌∙◌, arith}
 use Rattle.terms.specs.declared.refusals.Refusal.{Refusal}
 use Rattle.rules.specs.Contents.{Contents}
 use Rattle.rules.specs.Heads.{FillingHead, StartedHead}

@@ -1,5 +1,4 @@
 -- A register that is started and then run.
-use Rattle.std.specs.Prelude.{◌≡◌}
 use Rattle.rules.specs.Contents.{Contents}
 use Rattle.rules.specs.Heads.{FillingHead}
 use Rattle.rules.specs.Making.{fresh_head, fresh_contents}

@@ -1,7 +1,7 @@
-use Rattle.std.proofs.Common.{◌≡◌, Ok, sym, ap, ◌∙◌, subst}
+use Rattle.std.proofs.Common.{Ok, sym, ap, ◌∙◌, subst}
 use Rattle.rules.specs.Contents.{contents_of}
-use Rattle.rules.specs.Heads.{StartedHead, filling_of, started_of}
-use Rattle.rules.specs.Making.{StartOutcome, StartAnswer}
+use Rattle.rules.specs.Heads.{filling_of, started_of}
+use Rattle.rules.specs.Making.{StartOutcome}
 use Rattle.rules.specs.Registers.{Register, register_of}
 use Rattle.rules.proofs.Lending.{same_then}
 use Rattle.guarantee.specs.Promise.{PromiseFromStart}
