@@ -6,9 +6,9 @@ seed=${1:-1}
 count=${2:-20000}
 work=$(mktemp -d)
 trap 'rm -rf "$work"' EXIT
-rt check schedule_cases >"$work/log" 2>&1 || { cat "$work/log"; exit 1; }
+(cd crates/schedule_cases && rt run) >"$work/log" 2>&1 || { cat "$work/log"; exit 1; }
 python3 tests/account.py --random "$seed" "$count" >"$work/stdin"
 python3 tests/account.py --cases "$work/stdin" >"$work/expected"
-target/bin/schedule_cases <"$work/stdin" >"$work/printed"
+crates/schedule_cases/out/schedule_cases <"$work/stdin" >"$work/printed"
 cmp "$work/expected" "$work/printed"
 echo "compare.sh: seed $seed, $count schedules, no difference"

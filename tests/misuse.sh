@@ -17,17 +17,17 @@ with_dependencies() {
     echo "$1"
 }
 
-# Copies a crate without its must-fail edits. What is proved of it already is taken over; the rest is proved once, here.
+# Copies a crate without its must-fail edits and without what checks of it kept.
 copy_crate() {
-    cp -r "crates/$1" "$scratch/crates/$1"
-    rm -rf "$scratch/crates/$1/must-fail"
-    sed -n "/^$1:/p" crates.txt >>"$scratch/crates.txt"
-    local proved
-    for proved in "rlib/$1.rlib" "stamp/$1" "stamp/$1.tests"; do
-        if [ -e "target/$proved" ]; then
-            cp -r "target/$proved" "$scratch/target/$proved"
-        fi
+    mkdir "$scratch/crates/$1"
+    local part
+    for part in "crates/$1"/*; do
+        case ${part##*/} in
+        must-fail | out) ;;
+        *) cp -r "$part" "$scratch/crates/$1/" ;;
+        esac
     done
+    sed -n "/^$1:/p" crates.txt >>"$scratch/crates.txt"
 }
 
 # Writes a crate that uses a register rightly but for two lines: one before the start, one after it.
@@ -35,6 +35,8 @@ write_crate() {
     mkdir -p "$scratch/crates/$1/src"
     echo "$1: terms choosers rules register jobs" >>"$scratch/crates.txt"
     cat >"$scratch/crates/$1/src/lib.rt" <<RATTLE
+#![tactic(auto)]
+
 use choosers::chooser::Chooser;
 use jobs::opening::open;
 use register::making::fill;
@@ -66,7 +68,7 @@ fail() {
 }
 
 check() {
-    (cd "$scratch" && rt check "$1") >"$scratch/log" 2>&1
+    (cd "$scratch/crates/$1" && rt check) >"$scratch/log" 2>&1
 }
 
 # The check refuses the crate, and its only error is this one, at the line of misuse.
@@ -77,11 +79,11 @@ must_be_refused() {
     fi
     line=$(grep -nF "$misuse" "$scratch/crates/$crate/src/lib.rt" | cut -d: -f1)
     [ "$(grep -c 'error' "$scratch/log")" = 1 ] || fail "$crate: not refused by one error"
-    grep -F "crates/$crate/src/lib.rt:$line:" "$scratch/log" | grep -qF "$error" || fail "$crate: not refused at line $line by $error"
+    grep -F "src/lib.rt:$line:" "$scratch/log" | grep -qF "$error" || fail "$crate: not refused at line $line by $error"
     echo "$crate: refused, $error"
 }
 
-mkdir -p "$scratch/crates" "$scratch/target/rlib" "$scratch/target/stamp"
+mkdir "$scratch/crates"
 for crate in $(with_dependencies jobs | awk '!seen[$0]++'); do
     copy_crate "$crate"
 done
