@@ -1,4 +1,4 @@
-ghost use Rattle.std.specs.Prelude.{◌≡◌, ◌+◌, ◌≤◌, true, false, leb, length, is_ok, if◌then◌else◌, nat_le};
+ghost use Rattle.std.specs.Prelude.{◌≡◌, ◌+◌, ◌≤◌, false, cond, length, is_ok, nat_le};
 ghost use Rattle.output.specs.Guarded.{SameLine};
 ghost use Rattle.output.specs.Laid.{laid};
 ghost use Rattle.output.specs.Lines.{lead_bytes, tail_bytes, line_of, stop_line};
@@ -84,7 +84,7 @@ pub fn write_line(
 // Ends the output with the line `12`, in the bytes that every line before it left free; where not even these are free,
 // nothing is written.
 pub fn write_stop(count: &mut Count, out: &mut [u8])
-    ensures text { out.new ≡ (if leb (count.old.used + 3) (length out.old) then laid out.old count.old.used stop_line else out.old) }
+    ensures text { out.new ≡ cond (nat_le (count.old.used + 3) (length out.old)) (laid out.old count.old.used stop_line) out.old }
     ensures used { count.new.used ≡ cond (nat_le (count.old.used + 3) (length out.old)) (count.old.used + 3) count.old.used }
 {
     let at = count.used;

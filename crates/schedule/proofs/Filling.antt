@@ -1,5 +1,5 @@
 -- One cell more.
-use Rattle.std.proofs.Common.{◌≡◌, ℕ, suc, ◌+◌, ◌-◌, ◌<◌, ◌≤◌, Bool, true, false, cond, leb, List, [], ◌∷◌, ◌++◌, length, take, set, sym, refl, ap, ◌∙◌, subst, ⊎_elim, arith}
+use Rattle.std.proofs.Common.{◌≡◌, ℕ, suc, ◌+◌, ◌-◌, ◌<◌, ◌≤◌, Bool, cond, leb, List, [], ◌∷◌, ◌++◌, length, take, set, sym, ap, ◌∙◌, subst, ⊎_elim, arith}
 use Rattle.std.proofs.lemmas.List.{take_more_set, take_all, length-set}
 use Rattle.std.proofs.lemmas.Bool.{le-leb, lt-leb, cases_lt}
 use Rattle.terms.specs.declared.refusals.BadLine.{BadLine}
@@ -8,7 +8,6 @@ use Rattle.rules.specs.Heads.{Dimensions, FillingHead}
 use Rattle.rules.specs.Contents.{Contents, Fits}
 use Rattle.rules.specs.Making.{one_more_filled, with_value}
 use Rattle.stages.specs.declared.stage.Reader.{Reader}
-use Rattle.stages.specs.declared.stage.Stage.{Stage}
 use Rattle.stages.specs.declared.stage.Stage.TheVariants.{Cells, Calls}
 use Rattle.stages.specs.Stages.{moved_on}
 use Rattle.schedule.specs.Accounts.{Lines, wanted, read_cell, at_cells, at_calls, bad_line}

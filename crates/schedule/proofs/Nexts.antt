@@ -1,5 +1,5 @@
 -- The next line of a text, and whether the reader takes it.
-use Rattle.std.proofs.Common.{◌≡◌, ℕ, Bool, true, false, eqb, List, [], ◌∷◌, length, Some, None, Ok, Err, Option, Result, sym, refl, ap, ◌∙◌, arith, eqb-true}
+use Rattle.std.proofs.Common.{◌≡◌, ℕ, true, false, eqb, List, [], ◌∷◌, length, Some, None, Ok, Err, Option, Result, sym, refl, ap, ◌∙◌, arith, eqb-true}
 use Rattle.terms.specs.declared.refusals.BadField.{BadField}
 use Rattle.terms.specs.declared.refusals.BadLine.{BadLine}
 use Rattle.text.specs.Split.{before, after, lines_of}
@@ -8,8 +8,7 @@ use Rattle.values.specs.Forms.{Form}
 use Rattle.stages.specs.declared.stage.Stage.{Stage}
 use Rattle.stages.specs.declared.stage.Stage.TheVariants.{Calls}
 use Rattle.stages.specs.declared.stage.Reader.{Reader}
-use Rattle.stages.specs.declared.stage.Shape.{Shape}
-use Rattle.stages.specs.Stages.{bad_shape, shape_of, moved_on, taken, taken_or}
+use Rattle.stages.specs.Stages.{bad_shape, shape_of, moved_on, taken_or}
 use Rattle.schedule.specs.Accounts.{Lines, bad_next, at_line, wrong_letter, bad_line, fits, goes_on, wanted, at_calls}
 
 -- a text without bytes has no line

@@ -10,7 +10,7 @@ use Rattle.values.specs.Kinds.{card_form, dial_form}
 use Rattle.output.specs.Lines.{refusal_line, value_line}
 use Rattle.output.specs.Papers.{printed}
 use Rattle.stages.specs.declared.stage.Stage.{Stage}
-use Rattle.stages.specs.declared.stage.Stage.TheVariants.{Head, Chooser, Cells, Calls}
+use Rattle.stages.specs.declared.stage.Stage.TheVariants.{Head, Chooser, Cells}
 use Rattle.stages.specs.declared.head_line.KindName.{KindName}
 use Rattle.stages.specs.declared.head_line.KindName.TheVariants.{Card, Dial}
 use Rattle.stages.specs.declared.head_line.HeadLine.{HeadLine}

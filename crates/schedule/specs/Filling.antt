@@ -1,7 +1,7 @@
 -- A register that is being filled from the lines of a schedule.
-use Rattle.std.specs.Prelude.{◌≡◌, ℕ, ◌+◌, ◌-◌, ◌≤◌, cond, List, [], take, nat_le}
+use Rattle.std.specs.Prelude.{◌≡◌, ℕ, ◌+◌, ◌-◌, ◌≤◌, cond, [], take, nat_le}
 use Rattle.values.specs.Forms.{Form}
-use Rattle.rules.specs.Heads.{Dimensions, FillingHead}
+use Rattle.rules.specs.Heads.{FillingHead}
 use Rattle.rules.specs.Contents.{Contents, Fits}
 use Rattle.stages.specs.declared.stage.Reader.{Reader}
 use Rattle.stages.specs.declared.stage.Stage.TheVariants.{Cells, Calls}

@@ -1,8 +1,7 @@
 -- One number more of a script that is being read.
-use Rattle.std.proofs.Common.{◌≡◌, ℕ, suc, ◌+◌, ◌-◌, ◌<◌, ◌≤◌, true, ◌&&◌, leb, List, [], ◌∷◌, ◌++◌, length, take, drop, set, Some, None, Ok, Err, Option, Result, sym, ap, ◌∙◌, arith}
+use Rattle.std.proofs.Common.{◌≡◌, ℕ, suc, ◌+◌, ◌-◌, ◌<◌, ◌≤◌, true, ◌&&◌, leb, List, [], ◌∷◌, ◌++◌, length, take, drop, set, Some, None, Ok, Err, Option, sym, ap, ◌∙◌, arith}
 use Rattle.std.proofs.lemmas.List.{take_more_set}
 use Rattle.std.proofs.lemmas.Bool.{and_from, le-leb, cond-true}
-use Rattle.terms.specs.declared.refusals.BadField.{BadField}
 use Rattle.terms.specs.declared.refusals.Cause.TheVariants.{NoNumber}
 use Rattle.text.specs.Numbers.{number_in}
 use Rattle.text.specs.Split.{before, after, field_count}

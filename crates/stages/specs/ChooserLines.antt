@@ -1,5 +1,5 @@
 -- What a chooser line says.
-use Rattle.std.specs.Prelude.{ℕ, zero, suc, ◌+◌, Bool, cond, ◌&&◌, List, [], ◌∷◌, ◌++◌, take, Ok, Err, Result, nat_le}
+use Rattle.std.specs.Prelude.{ℕ, zero, suc, ◌+◌, cond, ◌&&◌, List, [], ◌∷◌, ◌++◌, take, Ok, Err, Result, nat_le}
 use Rattle.terms.specs.declared.refusals.BadField.{BadField}
 use Rattle.terms.specs.declared.refusals.Cause.TheVariants.{WrongCount, NoNumber, OutOfRange}
 use Rattle.text.specs.Numbers.{number_in}

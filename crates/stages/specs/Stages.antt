@@ -1,7 +1,7 @@
 -- The stages of a schedule, and which lines may stand at each.
-use Rattle.std.specs.Prelude.{ℕ, ◌+◌, ◌-◌, Bool, true, false, cond, ◌&&◌, ◌||◌, List, [], ◌∷◌, length, Some, None, Ok, Err, Option, Result, ◌==◌, nat_le, slice_index}
+use Rattle.std.specs.Prelude.{ℕ, ◌+◌, ◌-◌, Bool, true, false, cond, ◌&&◌, List, length, Some, None, Ok, Err, Option, Result, ◌==◌, nat_le, slice_index}
 use Rattle.terms.specs.declared.refusals.BadField.{BadField}
-use Rattle.terms.specs.declared.refusals.Cause.TheVariants.{WrongLetter, WrongCount, NoNumber}
+use Rattle.terms.specs.declared.refusals.Cause.TheVariants.{WrongLetter, WrongCount}
 use Rattle.text.specs.Split.{before, after, field_count}
 use Rattle.stages.specs.declared.stage.Stage.{Stage}
 use Rattle.stages.specs.declared.stage.Stage.TheVariants.{Head, Chooser, Cells, Calls}

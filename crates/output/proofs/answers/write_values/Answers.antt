@@ -9,7 +9,7 @@ loop-value-init g c = none_written c.args.count.now c.args.out.now
 
 pub returns-in_err-write_value : goal.returns-in_err-write_value
 returns-in_err-write_value g c =
-    let p = err_from_is_err_and c.from-residual.result c.from-residual.ensures.1 in
+    let p = err_from_is_err_and c.from_residual.result c.from_residual.ensures.1 in
     let w = next_written (value_line g.K.Kind.form) c.args.values.now c.loop-value.value-index c.value-item.result _ _ _ _ _ _ _
     c.loop-value-test.true c.value-item.is c.loop-value.invariant c.loop-value.auto.out c.in_err-write_value.ensures in
     rw (p.1, p.2) (first_written (value_line g.K.Kind.form) c.args.values.now (c.loop-value.value-index + 1) _ _ _ _ _ refl w)

@@ -1,4 +1,4 @@
-use Rattle.std.proofs.Common.{◌≡◌, ◌+◌, [], ◌∷◌, length, sym, refl, arith, rules}
+use Rattle.std.proofs.Common.{◌+◌, [], ◌∷◌, length, sym, refl, arith, rules}
 use Rattle.std.proofs.lemmas.Bool.{leb-true}
 use Rattle.output.proofs.Writing.{laid_one}
 use Rattle.output.proofs.Pieces.{writes_true}

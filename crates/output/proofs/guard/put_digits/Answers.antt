@@ -1,4 +1,4 @@
-use Rattle.std.proofs.Common.{◌≡◌, ◌+◌, length, decimal, sym, refl, arith, rules}
+use Rattle.std.proofs.Common.{◌+◌, length, decimal, sym, arith, rules}
 use Rattle.std.proofs.lemmas.Bool.{leb-true}
 use Rattle.output.proofs.Pieces.{writes_true}
 use Rattle.output.proofs.guard.put_digits.Goals as goal

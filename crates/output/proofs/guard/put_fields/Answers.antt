@@ -18,7 +18,7 @@ returns-in_err-put_field c =
     let s = c.in_err-put_field.ensures.same in
     let d = writes_field _ _ c.args.numbers.now c.loop-n.n-index _ _ _ _ _ (omega arith) c.loop-n.invariant.0 c.in_err-put_field.ensures.writes in
     record {
-      writes = writes_end _ _ _ _ _ _ _ (writes_short _ _ c.args.numbers.now (c.loop-n.n-index + 1) _ _ d) (err_not_ok _ c.from-residual.ensures.0);
+      writes = writes_end _ _ _ _ _ _ _ (writes_short _ _ c.args.numbers.now (c.loop-n.n-index + 1) _ _ d) (err_not_ok _ c.from_residual.ensures.0);
       same = record { lends = s.lends ∙ c.loop-n.invariant.1.lends; began = s.began ∙ c.loop-n.invariant.1.began; ends = s.ends ∙ c.loop-n.invariant.1.ends };
     }
 

@@ -1,4 +1,4 @@
-use Rattle.std.proofs.Common.{sym, refl, ap}
+use Rattle.std.proofs.Common.{refl, ap}
 use Rattle.output.specs.Papers.{answered}
 use Rattle.output.proofs.Papers.{paper_added, paper_full}
 use Rattle.output.proofs.lines.write_line.Goals as goal

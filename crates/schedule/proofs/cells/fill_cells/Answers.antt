@@ -1,10 +1,9 @@
-use Rattle.std.proofs.Common.{◌≡◌, ℕ, ◌<◌, sym, refl, ap, ◌∙◌, subst, arith}
+use Rattle.std.proofs.Common.{ℕ, ◌<◌, refl, ap, ◌∙◌, subst, arith}
 use Rattle.std.proofs.lemmas.Result.{err_from_is_err_and}
 use Rattle.rules.specs.Heads.{Dimensions, FillingHead, filling_of}
 use Rattle.rules.specs.Contents.{contents_of}
 use Rattle.rules.proofs.Lending.{same_none, same_then}
 use Rattle.text.specs.Split.{lines_of}
-use Rattle.schedule.specs.Accounts.{at_cells, bad_line}
 use Rattle.schedule.specs.Filling.{FilledTo}
 use Rattle.schedule.proofs.Filling.{cell_bad, cell_filled}
 use Rattle.schedule.proofs.cells.fill_cells.Goals as goal
@@ -14,7 +13,7 @@ loop-i-init g c = (c.requires, same_none _ _, refl)
 
 pub returns-in_err-value : goal.returns-in_err-value
 returns-in_err-value g c =
-    let p = err_from_is_err_and c.from-residual.result c.from-residual.ensures.1 in
+    let p = err_from_is_err_and c.from_residual.result c.from_residual.ensures.1 in
     let cells = ap (λ (d : Dimensions). d.cells) c.loop-i.invariant.2 in
     let lt : c.loop-i.i < c.loop-i.head.sizes.cells = omega (arith, cells, c.loop-i-test.true) in
     let bad = cell_bad g.K.Kind.form (lines_of c.args.text.now) c.loop-i.i (filling_of c.loop-i.head) (contents_of _ c.loop-i.t) c.loop-i.reader (lines_of c.loop-i.rest.now) c.in_err-value.field-0.0

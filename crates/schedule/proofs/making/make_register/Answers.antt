@@ -1,4 +1,4 @@
-use Rattle.std.proofs.Common.{◌≡◌, ℕ, ◌+◌, List, [], map, sym, ap, ◌∙◌}
+use Rattle.std.proofs.Common.{◌≡◌, ℕ, ◌+◌, [], map, sym, ap, ◌∙◌}
 use Rattle.rules.specs.declared.sizes.Sizes.{Sizes}
 use Rattle.rules.specs.Heads.{Dimensions, filling_of}
 use Rattle.rules.specs.Contents.{Contents, contents_of}

@@ -8,7 +8,7 @@ use Rattle.schedule.proofs.reading.head_line.Goals as goal
 
 pub returns-in_err-line : goal.returns-in_err-line
 returns-in_err-line c =
-    let p = err_from_is_err_and c.from-residual.result c.from-residual.ensures.1 in
+    let p = err_from_is_err_and c.from_residual.result c.from_residual.ensures.1 in
     rw (p.1, p.2) (λ next. wanted_bad 1 _ _ read_head next (lines_of c.args.text.now) _ c.in_err-line.ensures)
 
 pub returns-in-Ok : goal.returns-in-Ok

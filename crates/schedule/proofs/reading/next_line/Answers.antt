@@ -1,5 +1,5 @@
-use Rattle.std.proofs.Common.{◌≡◌, ℕ, List, ◌∷◌, Some, sym, ap, ◌∙◌}
-use Rattle.stages.specs.Stages.{bad_shape, shape_of, taken}
+use Rattle.std.proofs.Common.{◌≡◌, ◌∷◌, sym, ap, ◌∙◌}
+use Rattle.stages.specs.Stages.{bad_shape}
 use Rattle.text.specs.Split.{lines_of}
 use Rattle.schedule.specs.Accounts.{bad_next}
 use Rattle.schedule.proofs.Nexts.{no_lines, first_line, takes, refuses, bad_next_lem}

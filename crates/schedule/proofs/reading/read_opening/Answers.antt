@@ -1,4 +1,4 @@
-use Rattle.std.proofs.Common.{◌≡◌, sym, ap, ◌∙◌}
+use Rattle.std.proofs.Common.{sym, ap, ◌∙◌}
 use Rattle.std.proofs.lemmas.Result.{err_from_is_err_and}
 use Rattle.stages.specs.declared.stage.Reader.{Reader}
 use Rattle.stages.specs.ChooserLines.{read_chooser}
@@ -9,7 +9,7 @@ use Rattle.schedule.proofs.reading.read_opening.Goals as goal
 
 pub returns-in_err-rest : goal.returns-in_err-rest
 returns-in_err-rest c =
-    let p = err_from_is_err_and c.from-residual-in_err-rest.result c.from-residual-in_err-rest.ensures.1 in
+    let p = err_from_is_err_and c.from_residual-in_err-rest.result c.from_residual-in_err-rest.ensures.1 in
     let head = c.in_ok-head.ensures in
     let kind = of_kind c.in_ok-head.head.kind c.in_ok-head.head.cells in
     rw (p.1, p.2)
