@@ -9,7 +9,7 @@ loop-exchange-init g c = none_written c.args.count.now c.args.out.now
 
 pub returns-in_err-write_answer : goal.returns-in_err-write_answer
 returns-in_err-write_answer g c =
-    let p = err_from_is_err_and c.from-residual.result c.from-residual.ensures.1 in
+    let p = err_from_is_err_and c.from_residual.result c.from_residual.ensures.1 in
     let w = next_written (λ e. answer_line g.K.Kind.form e.answer) c.args.list.now c.loop-exchange.exchange-index c.exchange-item.result _ _ _ _ _ _ _
     c.loop-exchange-test.true c.exchange-item.is c.loop-exchange.invariant c.loop-exchange.auto.out c.in_err-write_answer.ensures in
     rw (p.1, p.2) (first_written (λ e. answer_line g.K.Kind.form e.answer) c.args.list.now (c.loop-exchange.exchange-index + 1) _ _ _ _ _ refl w)

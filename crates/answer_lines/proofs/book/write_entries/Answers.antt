@@ -10,7 +10,7 @@ loop-entry-init c = none_written c.args.count.now c.args.out.now
 
 pub returns-in_err-write_entry : goal.returns-in_err-write_entry
 returns-in_err-write_entry c =
-    let p = err_from_is_err_and c.from-residual.result c.from-residual.ensures.1 in
+    let p = err_from_is_err_and c.from_residual.result c.from_residual.ensures.1 in
     let w = next_written entry_line c.args.entries.now c.loop-entry.entry-index _ _ _ _ _ _ _ _
     c.loop-entry-test.true (get_or_default c.args.entries.now c.loop-entry.entry-index _ _ c.loop-entry-test.true) c.loop-entry.invariant c.loop-entry.auto.out c.in_err-write_entry.ensures in
     rw (p.1, p.2) (first_written entry_line c.args.entries.now (c.loop-entry.entry-index + 1) _ _ _ _ _ refl w)
