@@ -6,8 +6,8 @@ abbrev pub most_step : ℕ
 most_step = 1000000
 
 -- the steps that a stride can have
-abbrev pub in_range : ℕ → Bool
-in_range step = nat_le 1 step && nat_le step most_step
+abbrev pub step_in_range : ℕ → Bool
+step_in_range step = nat_le 1 step && nat_le step most_step
 
 -- low + step if that is under high, else the middle, rounded down
 abbrev pub stride_meaning : ℕ → Meaning

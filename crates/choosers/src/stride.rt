@@ -1,6 +1,6 @@
 ghost use Rattle.std.specs.Prelude.{◌≡◌, ℕ, ◌<◌, ◌≤◌, true, false, Ok, Err};
 ghost use Rattle.terms.specs.declared.refusals.Refusal.TheVariants.{BadSize};
-ghost use Rattle.choosers.specs.Stride.{stride_meaning, most_step, in_range};
+ghost use Rattle.choosers.specs.Stride.{stride_meaning, most_step, step_in_range};
 ghost use Rattle.choosers.specs.Lawful.{stride_lawful};
 
 use crate::chooser::{Chooser, no_room};
@@ -18,7 +18,7 @@ pub struct Stride {
 impl Stride {
     // A stride of 1 to 1,000,000; any other is a bad size.
     pub fn new(step: u64) -> Result<Stride, Refusal>
-        ensures { elim result [ Ok s ↦ (in_range step ≡ true) × (s.step ≡ step) | Err e ↦ (in_range step ≡ false) × (e ≡ BadSize) ] }
+        ensures { elim result [ Ok s ↦ (step_in_range step ≡ true) × (s.step ≡ step) | Err e ↦ (step_in_range step ≡ false) × (e ≡ BadSize) ] }
     {
         if step < 1 || 1_000_000 < step {
             return Err(Refusal::BadSize);

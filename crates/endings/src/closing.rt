@@ -1,4 +1,4 @@
-ghost use Rattle.std.specs.Prelude.{◌≡◌, ◌+◌, ◌<◌, ◌≤◌, ◌&&◌, ltb, ◌++◌, length, take, drop, replicate, if◌then◌else◌, nat_lt, slice_set};
+ghost use Rattle.std.specs.Prelude.{◌≡◌, ◌+◌, ◌<◌, ◌≤◌, ◌&&◌, ◌++◌, length, take, drop, replicate, if◌then◌else◌, nat_lt, slice_set};
 ghost use Rattle.rules.specs.Limits.{top};
 ghost use Rattle.rules.specs.Heads.{started_of};
 ghost use Rattle.rules.specs.JobCalls.{ended_head};
@@ -34,7 +34,7 @@ pub fn put_record(jobs: &mut [JobRecord], i: usize, job: JobRecord)
 // One job more has ended, at this place, and one less is open; a place over the top, or a head that counts no open job,
 // changes nothing.
 pub fn count_ended(head: &mut Started, place: Place)
-    ensures { started_of head.new ≡ (if ltb place.0 top && nat_lt 0 head.old.active then ended_head (started_of head.old) place.0 else started_of head.old) }
+    ensures { started_of head.new ≡ (if nat_lt place.0 top && nat_lt 0 head.old.active then ended_head (started_of head.old) place.0 else started_of head.old) }
 {
     if place.0 < 1 << 62 && 0 < head.active {
         head.highest = Place(larger(head.highest.0, place.0));

@@ -10,10 +10,6 @@ use Rattle.terms.specs.declared.refusals.Cause.TheVariants.{WrongLetter}
 use Rattle.stages.specs.Stages.{letter_of, is_letter}
 use Rattle.stages.specs.HeadLines.{and_then, without_fields, field}
 
--- the cause for which a line is bad whose first letter is none of a call's
-abbrev pub wrong_letter : BadField
-wrong_letter = record { field = 1; cause = WrongLetter }
-
 -- the number in field k of a line; it has no range
 abbrev pub number_at : ℕ → List ℕ → Result ℕ BadField
 number_at k line = is_number k (number_in (field k line)) (λ n. Ok n)
@@ -34,7 +30,7 @@ call_of form letter crew line =
     (cond (is_letter 87 letter) (write_of form crew line)
     (cond (is_letter 67 letter) (Ok (Commit crew))
     (cond (is_letter 65 letter) (Ok (Abandon crew))
-    (Err wrong_letter)))))
+    (Err (record { field = 1; cause = WrongLetter }))))))
 
 -- O,crew or R,crew,cell or W,crew,cell,fields or C,crew or A,crew; the fields are tested from left to right, and crew and cell have no range
 abbrev pub read_call : {V : Type 0} → Form V → List ℕ → Result (Call V) BadField

@@ -6,7 +6,7 @@ use Rattle.text.specs.Numbers.{number_in}
 use Rattle.text.specs.Split.{before, after, field_count}
 use Rattle.values.specs.Forms.{is_number}
 use Rattle.choosers.specs.declared.stride.Stride.{Stride}
-use Rattle.choosers.specs.Stride.{in_range}
+use Rattle.choosers.specs.Stride.{step_in_range}
 use Rattle.stages.specs.declared.chooser_line.ChooserLine.{ChooserLine}
 use Rattle.stages.specs.declared.chooser_line.ChooserLine.TheVariants as line
 use Rattle.stages.specs.Stages.{letter_of, is_letter}
@@ -19,7 +19,7 @@ pub data Choice : Type 0 where
 
 -- the stride in field 3: a number in the stride's range
 abbrev pub stride_in : List ℕ → Result ℕ BadField
-stride_in rest = is_number 3 (number_in (before 44 rest)) (λ step. cond (in_range step) (Ok step) (Err (record { field = 3; cause = OutOfRange })))
+stride_in rest = is_number 3 (number_in (before 44 rest)) (λ step. cond (step_in_range step) (Ok step) (Err (record { field = 3; cause = OutOfRange })))
 
 -- numbers from field `at` on, after those that were got
 abbrev pub numbers_from : List ℕ → ℕ → ℕ → List ℕ → Result (List ℕ) BadField
