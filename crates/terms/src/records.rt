@@ -1,19 +1,33 @@
+ghost use Rattle.std.specs.Prelude.{◌≡◌};
+ghost use Rattle.terms.specs.declared.records.Standing.TheVariants.{Closed};
+
 use crate::numbers::{CrewNumber, JobNumber, Place};
 
 // Whether a crew has a job open.
-#[derive(Clone, Copy, PartialEq, Eq, Debug)]
+#[derive(Clone, Copy, PartialEq, Eq, Debug, Default)]
 pub enum Standing {
+    #[default]
     Closed,
     Open,
 }
 
 // A crew's job: whether it is open, its number, and the two bounds between which its place will lie.
-#[derive(Clone, Copy, PartialEq, Eq, Debug)]
+#[derive(Clone, Copy, PartialEq, Eq, Debug, Default)]
 pub struct JobRecord {
     pub standing: Standing,
     pub job: JobNumber,
     pub low: Place,
     pub high: Place,
+}
+
+impl JobRecord {
+    // The record of a crew that has no job open: zeros.
+    pub fn closed() -> JobRecord
+        ensures standing { result.standing ≡ Closed }
+        ensures zeros { (result.job.0 ≡ 0) × (result.low.0 ≡ 0) × (result.high.0 ≡ 0) }
+    {
+        JobRecord::default()
+    }
 }
 
 // How a job ended.

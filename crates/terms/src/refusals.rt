@@ -3,16 +3,16 @@ ghost use Rattle.terms.specs.Refusals.{number_of, table_number, cause_letter};
 
 use crate::numbers::Place;
 
-// The seven tables, in the order in which they are handed in.
+// The seven tables, each with its number, in the order in which they are handed in.
 #[derive(Clone, Copy, PartialEq, Eq, Debug)]
 pub enum TableName {
-    Values,
-    WrittenPlaces,
-    ReadPlaces,
-    JobRecords,
-    OwnValues,
-    Flags,
-    Book,
+    Values = 1,
+    WrittenPlaces = 2,
+    ReadPlaces = 3,
+    JobRecords = 4,
+    OwnValues = 5,
+    Flags = 6,
+    Book = 7,
 }
 
 impl TableName {
@@ -20,25 +20,17 @@ impl TableName {
     pub fn number(self) -> u8
         ensures { result ≡ table_number self }
     {
-        match self {
-            TableName::Values => 1,
-            TableName::WrittenPlaces => 2,
-            TableName::ReadPlaces => 3,
-            TableName::JobRecords => 4,
-            TableName::OwnValues => 5,
-            TableName::Flags => 6,
-            TableName::Book => 7,
-        }
+        self as u8
     }
 }
 
-// Why a line of a schedule is bad, in the order of the tests.
+// Why a line of a schedule is bad, in the order of the tests, each with its letter.
 #[derive(Clone, Copy, PartialEq, Eq, Debug)]
 pub enum Cause {
-    WrongLetter,
-    WrongCount,
-    NoNumber,
-    OutOfRange,
+    WrongLetter = b'L' as isize,
+    WrongCount = b'F' as isize,
+    NoNumber = b'N' as isize,
+    OutOfRange = b'K' as isize,
 }
 
 impl Cause {
@@ -46,12 +38,14 @@ impl Cause {
     pub fn letter(self) -> u8
         ensures { result ≡ cause_letter self }
     {
-        match self {
-            Cause::WrongLetter => b'L',
-            Cause::WrongCount => b'F',
-            Cause::NoNumber => b'N',
-            Cause::OutOfRange => b'K',
-        }
+        self as u8
+    }
+
+    // The cause, told of a field.
+    pub fn in_field(self, field: usize) -> BadField
+        ensures { (result.field ≡ field) × (result.cause ≡ self) }
+    {
+        BadField { field, cause: self }
     }
 }
 
@@ -60,6 +54,15 @@ impl Cause {
 pub struct BadField {
     pub field: usize,
     pub cause: Cause,
+}
+
+impl BadField {
+    // The bad field, told of a line.
+    pub fn in_line(self, line: usize) -> BadLine
+        ensures { (result.line ≡ line) × (result.at ≡ self) }
+    {
+        BadLine { line, at: self }
+    }
 }
 
 // The line of a schedule that is bad, counted from 1, with its bad field.
