@@ -1,25 +1,17 @@
 -- A number read digit by digit.
-use Rattle.std.proofs.Common.{◌≡◌, ℕ, ◌+◌, ◌-◌, ◌*◌, ◌^◌, ◌<◌, ◌≤◌, true, false, leb, List, length, get_or, drop, None, ◌∙◌, pow-suc, add-one, arith, lit<}
+use Rattle.std.proofs.Common.{◌≡◌, ℕ, ◌+◌, ◌-◌, ◌*◌, ◌^◌, ◌<◌, ◌≤◌, true, false, List, length, get_or, drop, None, ◌∙◌, pow-suc, add-one, arith, lit<}
 use native.Mathlib.Nat.{pow-le-pow_right}
 use Rattle.std.proofs.lemmas.List.{at_drop_more}
-use Rattle.std.proofs.lemmas.Bool.{and_from, and_left, and_right, le-leb, lt-leb, cond-true, cond-false}
+use Rattle.std.proofs.lemmas.Bool.{and_from, le-leb, cond-true, cond-false}
 use Rattle.text.specs.Numbers.{is_digit, digits_after, number_in}
 
 -- one digit more
-pub read_more : (xs : List ℕ) (i n : ℕ) → i < length xs → 48 ≤ get_or xs i 0 → get_or xs i 0 ≤ 57 → digits_after n (drop i xs) ≡ digits_after (n * 10 + (get_or xs i 0 - 48)) (drop (i + 1) xs)
-read_more xs i n h a b =
-    let e : is_digit (get_or xs i 0) ≡ true = and_from _ _ (le-leb 48 (get_or xs i 0) a) (le-leb (get_or xs i 0) 57 b) in
-    at_drop_more (digits_after n) xs i 0 h ∙ cond-true (is_digit (get_or xs i 0)) _ _ e
+pub read_more : (xs : List ℕ) (i n : ℕ) → i < length xs → is_digit (get_or xs i 0) ≡ true → digits_after n (drop i xs) ≡ digits_after (n * 10 + (get_or xs i 0 - 48)) (drop (i + 1) xs)
+read_more xs i n h e = at_drop_more (digits_after n) xs i 0 h ∙ cond-true (is_digit (get_or xs i 0)) _ _ e
 
 -- a byte that is no digit ends it
 pub read_stop : (xs : List ℕ) (i n : ℕ) → i < length xs → is_digit (get_or xs i 0) ≡ false → digits_after n (drop i xs) ≡ None
 read_stop xs i n h e = at_drop_more (digits_after n) xs i 0 h ∙ cond-false (is_digit (get_or xs i 0)) _ _ e
-
-pub below_digits : (x : ℕ) → x < 48 → is_digit x ≡ false
-below_digits x h = and_left (leb 48 x) (leb x 57) (lt-leb 48 x h)
-
-pub above_digits : (x : ℕ) → 57 < x → is_digit x ≡ false
-above_digits x h = and_right (leb 48 x) (leb x 57) (lt-leb x 57 h)
 
 -- i digits give a number under 10 ^ i, and 19 of them fit 64 bits
 pub more_lt : (n i d : ℕ) → n < 10 ^ i → d ≤ 9 → n * 10 + d < 10 ^ (i + 1)

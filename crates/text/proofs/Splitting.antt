@@ -1,7 +1,6 @@
 -- Where a text is cut: fields, lines, and the count of fields.
-use Rattle.std.proofs.Common.{◌≡◌, ℕ, zero, suc, ◌+◌, ◌<◌, ◌≤◌, Bool, true, false, cond, eqb, List, [], ◌∷◌, length, get_or, take, drop, refl, ap, ◌∙◌, arith, eq-eqb, ne_eqb}
-use Rattle.std.proofs.lemmas.List.{at_drop_more, at_drop_all}
-use Rattle.std.proofs.lemmas.Bool.{cond-true, cond-false}
+use Rattle.std.specs.List.{filter}
+use Rattle.std.proofs.Common.{◌≡◌, ℕ, zero, suc, ◌+◌, ◌<◌, Bool, true, false, cond, eqb, List, [], ◌∷◌, length, get_or, take, drop, refl, ap, arith, eq-eqb, ne_eqb}
 use Rattle.text.specs.Split.{before, after, field_count, lines_of, joined}
 
 -- the first separator stands at i
@@ -35,14 +34,14 @@ pub lines_are : (x : ℕ) (xs : List ℕ) → lines_of (x ∷ xs) ≡ before 10 
 lines_are x [] = lines_last x (eqb x 10)
 lines_are x (y ∷ ys) = lines_step x y ys (eqb x 10) (lines_are y ys)
 
-count_more : (xs : List ℕ) (i : ℕ) → i < length xs → field_count (drop i xs) ≡ cond (eqb (get_or xs i 0) 44) (1 + field_count (drop (i + 1) xs)) (field_count (drop (i + 1) xs))
-count_more xs i h = at_drop_more field_count xs i 0 h
+abbrev pub is_comma : ℕ → Bool
+is_comma x = eqb x 44
 
-pub count_all : (xs : List ℕ) (i : ℕ) → length xs ≤ i → field_count (drop i xs) ≡ 1
-count_all xs i h = at_drop_all field_count xs i h
+commas_more : (b : Bool) (c : List ℕ) (x n : ℕ) → 1 + length c ≡ n → 1 + length (cond b (x ∷ c) c) ≡ cond b (1 + n) n
+commas_more true c x n h = omega (arith, h)
+commas_more false c x n h = h
 
-pub count_comma : (xs : List ℕ) (i : ℕ) → i < length xs → get_or xs i 0 ≡ 44 → field_count (drop i xs) ≡ 1 + field_count (drop (i + 1) xs)
-count_comma xs i h e = count_more xs i h ∙ cond-true _ _ _ (eq-eqb (get_or xs i 0) 44 e)
-
-pub count_other : (xs : List ℕ) (i : ℕ) → i < length xs → (get_or xs i 0 ≡ 44 → ⊥) → field_count (drop i xs) ≡ field_count (drop (i + 1) xs)
-count_other xs i h e = count_more xs i h ∙ cond-false _ _ _ (ne_eqb (get_or xs i 0) 44 e)
+-- a line has one field more than commas
+pub one_more_than_commas : (xs : List ℕ) → 1 + length (filter is_comma xs) ≡ field_count xs
+one_more_than_commas [] = refl
+one_more_than_commas (x ∷ xs) = commas_more (is_comma x) (filter is_comma xs) x (field_count xs) (one_more_than_commas xs)

@@ -4,16 +4,18 @@ ghost use Rattle.std.specs.Prelude.{◌≡◌};
 ghost use Rattle.text.specs.Numbers.{number_in};
 ghost use Rattle.text.specs.Split.{before, after, field_count};
 
+use memchr::memchr;
+
 // The number in a field of 1 to 19 digits, which may begin with zeros; none in any other field.
 pub fn number(field: &[u8]) -> Option<u64>
     ensures { result ≡ number_in field.now }
 {
-    if field.len() < 1 || field.len() > 19 {
+    if field.is_empty() || field.len() > 19 {
         return None;
     }
     let mut n: u64 = 0;
     for b in field {
-        if *b < b'0' || *b > b'9' {
+        if !b.is_ascii_digit() {
             return None;
         }
         n = n * 10 + (*b - b'0') as u64;
@@ -26,13 +28,10 @@ pub fn cut(bytes: &[u8], separator: u8) -> (&[u8], &[u8])
     ensures first { result.0.now ≡ before separator bytes.now }
     ensures rest { result.1.now ≡ after separator bytes.now }
 {
-    for (i, x) in bytes.iter().enumerate() {
-        if *x == separator {
-            return (&bytes[0..i], &bytes[i + 1..]);
-        }
+    match memchr(separator, bytes) {
+        Some(i) => (&bytes[..i], &bytes[i + 1..]),
+        None => (bytes, &[]),
     }
-    let n = bytes.len();
-    (bytes, &bytes[n..])
 }
 
 // A line's first field, with the bytes after its comma, which are yet to be read.
@@ -55,11 +54,5 @@ pub fn read_line(text: &[u8]) -> (&[u8], &[u8])
 pub fn count_fields(line: &[u8]) -> usize
     ensures { result ≡ field_count line.now }
 {
-    let mut n: usize = 1;
-    for x in line {
-        if *x == b',' {
-            n += 1;
-        }
-    }
-    n
+    1 + line.iter().filter(|x| **x == b',').count()
 }

@@ -1,16 +1,11 @@
-use Rattle.std.proofs.Common.{arith}
-use Rattle.text.proofs.Splitting.{count_comma, count_other, count_all}
+use Rattle.std.proofs.Common.{◌+◌, ap, ◌∙◌, rules, tests}
+use Rattle.std.proofs.lemmas.Iterator.{YieldsList-from_slice}
+use Rattle.std.proofs.lemmas.Iterator.Consumers.{YieldsList-at, YieldsList-from_filter, count_from_yields_List}
+use Rattle.text.proofs.Splitting.{is_comma, one_more_than_commas}
 use Rattle.text.proofs.count_fields.Goals as goal
-use Rattle.text.proofs.count_fields.Goals.{then-x-eq44, else-x-eq44}
-
-pub loop-x-preserved : goal.loop-x-preserved
-loop-x-preserved c =
-    elim c.if-x-eq44.branch [
-      | then-x-eq44 w ↦ (let e = count_comma c.args.line.now c.loop-x.x-index c.loop-x-test.true w.if-x-eq44.true in
-          (omega (arith, e, w.n-is, c.loop-x.invariant.0), omega (arith, w.n-is, c.loop-x.invariant.1)))
-      | else-x-eq44 w ↦ (let e = count_other c.args.line.now c.loop-x.x-index c.loop-x-test.true w.if-x-eq44.false in
-          (omega (arith, e, w.n-is, c.loop-x.invariant.0), omega (arith, w.n-is, c.loop-x.invariant.1)))
-    ]
 
 pub returns : goal.returns
-returns c = omega (arith, count_all c.args.line.now c.loop-x.x-index c.loop-x-test.false, c.loop-x.invariant.0)
+returns c =
+    ap (λ n. 1 + n) (count_from_yields_List _ _ c.count.ensures.ran
+    (YieldsList-from_filter _ is_comma (YieldsList-at c.filter.ensures.source (YieldsList-from_slice c.args.line.now c.iter.ensures.rest)) c.filter.ensures.closure (λ x r q k. search (rules, tests))))
+    ∙ one_more_than_commas c.args.line.now
