@@ -52,11 +52,7 @@ impl Kind for Card {
     }
 
     fn blank() -> Card {
-        Card {
-            serial: 0,
-            litres: 0,
-            gateway: 0,
-        }
+        Card::default()
     }
 
     fn field(&self, i: usize) -> u64 {
@@ -69,16 +65,16 @@ impl Kind for Card {
     }
 
     fn with_field(self, i: usize, x: u64) -> Option<Card> {
-        match i {
-            0 if 1 <= x && x <= 99_999_999 => Some(Card {
+        match (i, x) {
+            (0, 1..=99_999_999) => Some(Card {
                 serial: x as u32,
                 ..self
             }),
-            1 if x <= 999_999_999 => Some(Card {
+            (1, 0..=999_999_999) => Some(Card {
                 litres: x as u32,
                 ..self
             }),
-            2 if 1 <= x && x <= 65_535 => Some(Card {
+            (2, 1..=65_535) => Some(Card {
                 gateway: x as u16,
                 ..self
             }),
@@ -103,7 +99,7 @@ impl Kind for Dial {
     }
 
     fn blank() -> Dial {
-        Dial { number: 0 }
+        Dial::default()
     }
 
     fn field(&self, i: usize) -> u64 {
@@ -114,8 +110,8 @@ impl Kind for Dial {
     }
 
     fn with_field(self, i: usize, x: u64) -> Option<Dial> {
-        match i {
-            0 if x <= 999_999_999 => Some(Dial { number: x as u32 }),
+        match (i, x) {
+            (0, 0..=999_999_999) => Some(Dial { number: x as u32 }),
             _ => None,
         }
     }

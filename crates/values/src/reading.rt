@@ -15,19 +15,10 @@ pub fn read_value<K: Kind>(line: &[u8], first: u8) -> Result<K, BadField>
     for i in 0..K::count() {
         let field = first as usize + i;
         let (part, after) = read_field(rest);
-        let Some(x) = number(part) else {
-            return Err(BadField {
-                field,
-                cause: Cause::NoNumber,
-            });
-        };
-        let Some(next) = value.with_field(i, x) else {
-            return Err(BadField {
-                field,
-                cause: Cause::OutOfRange,
-            });
-        };
-        value = next;
+        let x = number(part).ok_or(Cause::NoNumber.in_field(field))?;
+        value = value
+            .with_field(i, x)
+            .ok_or(Cause::OutOfRange.in_field(field))?;
         rest = after;
     }
     Ok(value)
