@@ -1,5 +1,5 @@
 -- What a script gives, by the numbers that it has not used up yet.
-use Rattle.std.specs.Prelude.{ℕ, ◌+◌, cond, List, [], ◌∷◌, drop, nat_lt}
+use Rattle.std.specs.Prelude.{ℕ, ◌+◌, cond, List, [], ◌∷◌, nat_lt}
 use Rattle.choosers.specs.Meaning.{Meaning, no_room}
 use Rattle.choosers.specs.declared.script.Script.{Script}
 
@@ -27,4 +27,4 @@ script_meaning numbers further low high = cond (no_room low high) low (next_fitt
 
 -- the numbers that the code's script has not used up
 abbrev pub not_used : Script → List ℕ
-not_used s = drop s.used s.numbers.now
+not_used s = s.left.now

@@ -21,5 +21,5 @@ pub trait Chooser {
 pub(crate) fn no_room(low: Place, high: Place) -> bool
     ensures { result ≡ no_room low.0 high.0 }
 {
-    high.0 < low.0 || high.0 - low.0 < 2
+    high.0.saturating_sub(low.0) < 2
 }

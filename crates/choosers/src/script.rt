@@ -5,11 +5,10 @@ ghost use Rattle.choosers.specs.Lawful.{script_lawful};
 use crate::chooser::{Chooser, no_room};
 use terms::numbers::Place;
 
-// A chooser that gives the numbers of a lent list in turn, each where it lies between the bounds.
+// A chooser that gives the numbers of a lent list in turn, each where it lies between the bounds; it keeps those that are left.
 #[derive(Clone, Copy)]
 pub struct Script<'a> {
-    numbers: &'a [u64],
-    used: usize,
+    left: &'a [u64],
 }
 
 impl<'a> Script<'a> {
@@ -17,7 +16,7 @@ impl<'a> Script<'a> {
     pub fn new(numbers: &'a [u64]) -> Script<'a>
         ensures { not_used result ≡ numbers.now }
     {
-        Script { numbers, used: 0 }
+        Script { left: numbers }
     }
 }
 
@@ -30,13 +29,12 @@ impl Chooser for Script<'_> {
         if no_room(low, high) {
             return low;
         }
-        if self.used >= self.numbers.len() {
+        let Some((number, left)) = self.left.split_first() else {
             return Place(low.0 + 1);
-        }
-        let number = self.numbers[self.used];
-        self.used += 1;
-        if low.0 < number && number < high.0 {
-            Place(number)
+        };
+        self.left = left;
+        if low.0 < *number && *number < high.0 {
+            Place(*number)
         } else {
             Place(low.0 + 1)
         }

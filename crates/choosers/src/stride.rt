@@ -20,7 +20,7 @@ impl Stride {
     pub fn new(step: u64) -> Result<Stride, Refusal>
         ensures { elim result [ Ok s ↦ (step_in_range step ≡ true) × (s.step ≡ step) | Err e ↦ (step_in_range step ≡ false) × (e ≡ BadSize) ] }
     {
-        if step < 1 || 1_000_000 < step {
+        if !(1..=1_000_000).contains(&step) {
             return Err(Refusal::BadSize);
         }
         Ok(Stride { step })
