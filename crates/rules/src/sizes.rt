@@ -23,7 +23,10 @@ impl Sizes {
     pub fn new(cells: u64, crews: u64, entries: u64) -> Result<Sizes, Refusal>
         ensures { elim result [ Ok s ↦ (in_range cells crews entries ≡ true) × (s.cells ≡ cells) × (s.crews ≡ crews) × (s.entries ≡ entries) | Err e ↦ (in_range cells crews entries ≡ false) × (e ≡ BadSize) ] }
     {
-        if cells < 1 || 1024 < cells || crews < 1 || 32 < crews || entries < 1 || 65_535 < entries {
+        if !(1..=1024).contains(&cells)
+            || !(1..=32).contains(&crews)
+            || !(1..=65_535).contains(&entries)
+        {
             return Err(Refusal::BadSize);
         }
         Ok(Sizes {
