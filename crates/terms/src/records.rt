@@ -1,5 +1,6 @@
 ghost use Rattle.std.specs.Prelude.{◌≡◌};
 ghost use Rattle.terms.specs.declared.records.Standing.TheVariants.{Closed};
+ghost use Rattle.terms.specs.Records.{ending_letter};
 
 use crate::numbers::{CrewNumber, JobNumber, Place};
 
@@ -30,11 +31,20 @@ impl JobRecord {
     }
 }
 
-// How a job ended.
+// How a job ended, each with its letter.
 #[derive(Clone, Copy, PartialEq, Eq, Debug)]
 pub enum Ending {
-    Committed,
-    Abandoned,
+    Committed = b'C' as isize,
+    Abandoned = b'A' as isize,
+}
+
+impl Ending {
+    // The letter that stands for the ending in the output.
+    pub fn letter(self) -> u8
+        ensures { result ≡ ending_letter self }
+    {
+        self as u8
+    }
 }
 
 // An entry of the book: an ended job, its crew, its place, and how it ended.
