@@ -24,7 +24,7 @@ fn unsound(low: u64, high: u64, active: usize) -> bool
     high < 2 || high - 2 < low || 1 << 62 < high || active == 0
 }
 
-// The crew that may open a job, or the first test that refuses it.
+// The crew that may open a job, or the first test that refuses the call.
 pub fn admit_opening<V>(
     head: &Started,
     t: &Tables<'_, V>,
@@ -47,12 +47,10 @@ pub fn admit_opening<V>(
     Ok(crew)
 }
 
-// What refuses a crew that is to go on with its job.
-fn job_barred<V>(head: &Started, t: &Tables<'_, V>, crew: Crew) -> Result<(), Refusal>
+// A job of the crew is open and is not damaged.
+fn can_go_on<V>(head: &Started, t: &Tables<'_, V>, crew: Crew) -> Result<(), Refusal>
     ensures answer { result_err result ≡ first_refusal ((not (has_job (register_of V head.now t.now) crew.number), NoJobOpen) ∷ (isDamaged (register_of V head.now t.now) crew.number, DamagedJob) ∷ []) }
-    ensures room { elim result [ Ok _ ↦ low_of (register_of V head.now t.now) crew.number + 2 ≤ high_of (register_of V head.now t.now) crew.number | Err _ ↦ Unit {0} ] }
-    ensures under { elim result [ Ok _ ↦ high_of (register_of V head.now t.now) crew.number ≤ top | Err _ ↦ Unit {0} ] }
-    ensures counted { elim result [ Ok _ ↦ 1 ≤ head.now.active | Err _ ↦ Unit {0} ] }
+    ensures going_on { elim result [ Ok _ ↦ (low_of (register_of V head.now t.now) crew.number + 2 ≤ high_of (register_of V head.now t.now) crew.number) × (high_of (register_of V head.now t.now) crew.number ≤ top) × (1 ≤ head.now.active) | Err _ ↦ Unit {0} ] }
 {
     let job = record_of(t, crew);
     if !is_open(job.standing) {
@@ -64,14 +62,14 @@ fn job_barred<V>(head: &Started, t: &Tables<'_, V>, crew: Crew) -> Result<(), Re
     Ok(())
 }
 
-// The crew that may go on with its job, or the first test that refuses it.
+// The crew that may go on with its job, or the first test that refuses the call.
 pub fn admit<V>(head: &Started, t: &Tables<'_, V>, number: CrewNumber) -> Result<Crew, Refusal>
     ensures answer { result_err result ≡ first_refusal (job_tests {V = V} (register_of V head.now t.now) no number.0) }
     ensures admitted { elim result [ Ok w ↦ (w.number ≡ number.0) × MayGoOn {V = V} (register_of V head.now t.now) w.number | Err _ ↦ Unit {0} ] }
 {
     wrong_table(head.sizes, t)?;
     let crew = Crew::of(number, head.sizes).ok_or(Refusal::NoCrew)?;
-    job_barred(head, t, crew)?;
+    can_go_on(head, t, crew)?;
     Ok(crew)
 }
 
@@ -88,6 +86,6 @@ pub fn admit_at<V>(
     wrong_table(head.sizes, t)?;
     let crew = Crew::of(number, head.sizes).ok_or(Refusal::NoCrew)?;
     let known = Cell::of(cell, head.sizes).ok_or(Refusal::NoCell)?;
-    job_barred(head, t, crew)?;
+    can_go_on(head, t, crew)?;
     Ok((crew, known))
 }
