@@ -1,9 +1,10 @@
 ghost use Rattle.std.specs.Prelude.{◌≡◌};
 ghost use Rattle.rules.specs.Tables.{read_flag, written_flag, with_read, with_written};
 
-// The two bits of a flag that count.
+// The bit of a flag for 'read first-hand'.
 const READ: u8 = 1;
 
+// The bit of a flag for 'written'.
 const WRITTEN: u8 = 2;
 
 // The flag says that the job has read the cell first-hand.

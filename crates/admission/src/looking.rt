@@ -43,7 +43,8 @@ pub fn spot(sizes: Sizes, crew: Crew, cell: Cell) -> usize
     row(sizes, crew) + (cell.number - 1)
 }
 
-// The flag of a crew at the cell `i`, counted from 0; past the table's end it is 0.
+// The flag of a crew at the cell `i`, counted from 0; past the table's end it is 0. A sum that would be over
+// the largest number is past the end as well.
 fn flag<V>(head: &Started, t: &Tables<'_, V>, crew: Crew, i: usize) -> u8
     ensures { result ≡ flag_of (register_of V head.now t.now) crew.number (i + 1) }
 {

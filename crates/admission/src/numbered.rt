@@ -12,10 +12,10 @@ pub struct Numbered<const MOST: usize> {
     ghost in_range: { number ≤ MOST },
 }
 
-// A crew that a register can have.
+// A crew that a register can have, by its number from 1.
 pub type Crew = Numbered<32>;
 
-// A cell that a register can have.
+// A cell that a register can have, by its number from 1.
 pub type Cell = Numbered<1024>;
 
 impl<const MOST: usize> Numbered<MOST> {

@@ -47,7 +47,7 @@ pub fn admit_opening<V>(
     Ok(crew)
 }
 
-// A job of the crew is open and is not damaged.
+// The crew may go on with its job, or the first test that bars it.
 fn can_go_on<V>(head: &Started, t: &Tables<'_, V>, crew: Crew) -> Result<(), Refusal>
     ensures answer { result_err result ≡ first_refusal ((not (has_job (register_of V head.now t.now) crew.number), NoJobOpen) ∷ (isDamaged (register_of V head.now t.now) crew.number, DamagedJob) ∷ []) }
     ensures going_on { elim result [ Ok _ ↦ (low_of (register_of V head.now t.now) crew.number + 2 ≤ high_of (register_of V head.now t.now) crew.number) × (high_of (register_of V head.now t.now) crew.number ≤ top) × (1 ≤ head.now.active) | Err _ ↦ Unit {0} ] }
