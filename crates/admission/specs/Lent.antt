@@ -1,5 +1,5 @@
 -- A started register as it is lent to a call, and what is known of it once no test has refused the call.
-use Rattle.std.specs.Prelude.{ℕ, ◌+◌, ◌<◌, ◌≤◌, Bool, false, ◌++◌, Some, None, Ok, Err, Option, Result}
+use Rattle.std.specs.Prelude.{ℕ, ◌+◌, ◌<◌, ◌≤◌, Bool, false, ◌++◌, Result}
 use Rattle.terms.specs.declared.refusals.Refusal.{Refusal}
 use Rattle.choosers.specs.Meaning.{Meaning}
 use Rattle.rules.specs.declared.head.Started.{Started}
@@ -16,11 +16,6 @@ use Rattle.rules.specs.Performing.{Performs}
 -- every table has the length that the head says
 abbrev pub AllFit : {V : Type 0} → Register V → Type 0
 AllFit r = Fits r.head.sizes r.tables
-
--- the refusal in an answer, if it is one
-abbrev pub refusal_in : {A : Type 0} → Result A Refusal → Option Refusal
-refusal_in (Ok x) = None
-refusal_in (Err e) = Some e
 
 -- the tests of every call but an opening
 abbrev pub job_tests : {V : Type 0} → Register V → Bool → ℕ → Tests

@@ -1,4 +1,4 @@
-ghost use Rattle.std.specs.Prelude.{◌≡◌, ◌+◌, ◌*◌, ◌<◌, ◌≤◌, max};
+ghost use Rattle.std.specs.Prelude.{◌≡◌, ◌+◌, ◌*◌, ◌<◌, ◌≤◌};
 ghost use Rattle.rules.specs.Contents.{closed_record};
 ghost use Rattle.rules.specs.Tables.{at, row as row_of, spot as spot_of};
 ghost use Rattle.rules.specs.Registers.{is_open, flag_of, has_read, has_written, register_of};
@@ -8,41 +8,23 @@ use crate::numbered::{Cell, Crew};
 use rules::head::Started;
 use rules::sizes::Sizes;
 use rules::tables::Tables;
-use terms::numbers::{JobNumber, Place};
 use terms::records::{JobRecord, Standing};
 
 // The record is of a crew that has a job open.
 pub fn is_open(standing: Standing) -> bool
     ensures { result ≡ is_open standing }
 {
-    match standing {
-        Standing::Open => true,
-        Standing::Closed => false,
-    }
-}
-
-// The record of a crew that has no job open.
-pub fn closed_record() -> JobRecord
-    ensures { result ≡ closed_record }
-{
-    JobRecord {
-        standing: Standing::Closed,
-        job: JobNumber(0),
-        low: Place(0),
-        high: Place(0),
-    }
+    standing == Standing::Open
 }
 
 // The job record of a crew; past the table's end it counts as closed.
 pub fn record_of<V>(t: &Tables<'_, V>, crew: Crew) -> JobRecord
     ensures { result ≡ at t.now.jobs.now crew.number closed_record }
 {
-    let i = crew.number - 1;
-    if i < t.jobs.len() {
-        t.jobs[i]
-    } else {
-        closed_record()
-    }
+    t.jobs
+        .get(crew.number - 1)
+        .copied()
+        .unwrap_or(JobRecord::closed())
 }
 
 // Where the row of a crew begins in a table of crews and cells.
@@ -61,16 +43,13 @@ pub fn spot(sizes: Sizes, crew: Crew, cell: Cell) -> usize
     row(sizes, crew) + (cell.number - 1)
 }
 
-// The flag of a crew at the cell `i`, counted from 0; past the table's end it is 0.
+// The flag of a crew at the cell `i`, counted from 0; past the table's end it is 0. A sum that would be over
+// the largest number is past the end as well.
 fn flag<V>(head: &Started, t: &Tables<'_, V>, crew: Crew, i: usize) -> u8
     ensures { result ≡ flag_of (register_of V head.now t.now) crew.number (i + 1) }
 {
-    let from = row(head.sizes, crew);
-    if i < t.flags.len() && from < t.flags.len() - i {
-        t.flags[from + i]
-    } else {
-        0
-    }
+    let k = row(head.sizes, crew).saturating_add(i);
+    t.flags.get(k).copied().unwrap_or(0)
 }
 
 // The crew's job has read the cell `i`, counted from 0, first-hand.
@@ -85,11 +64,4 @@ pub fn has_written<V>(head: &Started, t: &Tables<'_, V>, crew: Crew, i: usize) -
     ensures { result ≡ has_written (register_of V head.now t.now) crew.number (i + 1) }
 {
     is_written(flag(head, t, crew, i))
-}
-
-// The larger of two places.
-pub fn larger(a: u64, b: u64) -> u64
-    ensures { result ≡ max a b }
-{
-    if a < b { b } else { a }
 }

@@ -1,4 +1,5 @@
 ghost use Rattle.std.specs.Prelude.{◌≡◌, ◌+◌, ◌≤◌, true as yes, false as no, not, ◌||◌, [], ◌∷◌, Some, None, Ok, Err, ◌==◌, nat_lt};
+ghost use Rattle.std.specs.Result.{result_err};
 ghost use Rattle.terms.specs.declared.refusals.Refusal.TheVariants.{NoJob as NoJobOpen, Damaged as DamagedJob};
 ghost use Rattle.rules.specs.declared.calls.Call.TheVariants.{Open as Opening};
 ghost use Rattle.rules.specs.Limits.{top};
@@ -6,7 +7,7 @@ ghost use Rattle.rules.specs.Refusing.{first_refusal};
 ghost use Rattle.rules.specs.Tables.{outside};
 ghost use Rattle.rules.specs.Registers.{has_job, low_of, high_of, register_of};
 ghost use Rattle.rules.specs.JobCalls.{damaged as isDamaged, call_tests, tests_of};
-ghost use Rattle.admission.specs.Lent.{AllFit, refusal_in, job_tests, MayOpen, MayGoOn};
+ghost use Rattle.admission.specs.Lent.{job_tests, MayOpen, MayGoOn};
 
 use crate::looking::{is_open, record_of};
 use crate::numbered::{Cell, Crew};
@@ -23,15 +24,17 @@ fn unsound(low: u64, high: u64, active: usize) -> bool
     high < 2 || high - 2 < low || 1 << 62 < high || active == 0
 }
 
-// What refuses an opening once the tables fit.
-fn opening_barred<V>(head: &Started, t: &Tables<'_, V>, number: CrewNumber) -> Result<Crew, Refusal>
-    requires { AllFit {V = V} (register_of V head.now t.now) }
-    ensures answer { refusal_in result ≡ first_refusal (call_tests (register_of V head.now t.now) yes no number.0) }
+// The crew that may open a job, or the first test that refuses the call.
+pub fn admit_opening<V>(
+    head: &Started,
+    t: &Tables<'_, V>,
+    number: CrewNumber,
+) -> Result<Crew, Refusal>
+    ensures answer { result_err result ≡ first_refusal (tests_of {V = V} (register_of V head.now t.now) (Opening number)) }
     ensures admitted { elim result [ Ok w ↦ (w.number ≡ number.0) × MayOpen {V = V} (register_of V head.now t.now) w.number | Err _ ↦ Unit {0} ] }
 {
-    let Some(crew) = Crew::of(number, head.sizes) else {
-        return Err(Refusal::NoCrew);
-    };
+    wrong_table(head.sizes, t)?;
+    let crew = Crew::of(number, head.sizes).ok_or(Refusal::NoCrew)?;
     if is_open(record_of(t, crew).standing) {
         return Err(Refusal::JobOpen);
     }
@@ -44,85 +47,30 @@ fn opening_barred<V>(head: &Started, t: &Tables<'_, V>, number: CrewNumber) -> R
     Ok(crew)
 }
 
-// The crew that may open a job, or the first test that refuses it.
-pub fn admit_opening<V>(
-    head: &Started,
-    t: &Tables<'_, V>,
-    number: CrewNumber,
-) -> Result<Crew, Refusal>
-    ensures answer { refusal_in result ≡ first_refusal (tests_of {V = V} (register_of V head.now t.now) (Opening number)) }
-    ensures admitted { elim result [ Ok w ↦ (w.number ≡ number.0) × MayOpen {V = V} (register_of V head.now t.now) w.number | Err _ ↦ Unit {0} ] }
-{
-    match wrong_table(head.sizes, t) {
-        Some(refusal) => Err(refusal),
-        None => opening_barred(head, t, number),
-    }
-}
-
-// What refuses a crew that is to go on with its job.
-fn job_barred<V>(head: &Started, t: &Tables<'_, V>, crew: Crew) -> Option<Refusal>
-    ensures answer { result ≡ first_refusal ((not (has_job (register_of V head.now t.now) crew.number), NoJobOpen) ∷ (isDamaged (register_of V head.now t.now) crew.number, DamagedJob) ∷ []) }
-    ensures room { result ≡ None → low_of (register_of V head.now t.now) crew.number + 2 ≤ high_of (register_of V head.now t.now) crew.number }
-    ensures under { result ≡ None → high_of (register_of V head.now t.now) crew.number ≤ top }
-    ensures counted { result ≡ None → 1 ≤ head.now.active }
+// The crew may go on with its job, or the first test that bars it.
+fn can_go_on<V>(head: &Started, t: &Tables<'_, V>, crew: Crew) -> Result<(), Refusal>
+    ensures answer { result_err result ≡ first_refusal ((not (has_job (register_of V head.now t.now) crew.number), NoJobOpen) ∷ (isDamaged (register_of V head.now t.now) crew.number, DamagedJob) ∷ []) }
+    ensures going_on { elim result [ Ok _ ↦ (low_of (register_of V head.now t.now) crew.number + 2 ≤ high_of (register_of V head.now t.now) crew.number) × (high_of (register_of V head.now t.now) crew.number ≤ top) × (1 ≤ head.now.active) | Err _ ↦ Unit {0} ] }
 {
     let job = record_of(t, crew);
     if !is_open(job.standing) {
-        return Some(Refusal::NoJob);
+        return Err(Refusal::NoJob);
     }
     if unsound(job.low.0, job.high.0, head.active) {
-        return Some(Refusal::Damaged);
+        return Err(Refusal::Damaged);
     }
-    None
+    Ok(())
 }
 
-// What refuses any call but an opening once the tables fit.
-fn barred<V>(head: &Started, t: &Tables<'_, V>, number: CrewNumber) -> Result<Crew, Refusal>
-    requires { AllFit {V = V} (register_of V head.now t.now) }
-    ensures answer { refusal_in result ≡ first_refusal (call_tests (register_of V head.now t.now) no no number.0) }
-    ensures admitted { elim result [ Ok w ↦ (w.number ≡ number.0) × MayGoOn {V = V} (register_of V head.now t.now) w.number | Err _ ↦ Unit {0} ] }
-{
-    let Some(crew) = Crew::of(number, head.sizes) else {
-        return Err(Refusal::NoCrew);
-    };
-    match job_barred(head, t, crew) {
-        Some(refusal) => Err(refusal),
-        None => Ok(crew),
-    }
-}
-
-// The same for a call that names a cell.
-fn barred_at<V>(
-    head: &Started,
-    t: &Tables<'_, V>,
-    number: CrewNumber,
-    cell: CellNumber,
-) -> Result<(Crew, Cell), Refusal>
-    requires { AllFit {V = V} (register_of V head.now t.now) }
-    ensures answer { refusal_in result ≡ first_refusal (call_tests (register_of V head.now t.now) no (outside head.now.sizes.cells cell.0) number.0) }
-    ensures admitted { elim result [ Ok at ↦ (at.0.number ≡ number.0) × (at.1.number ≡ cell.0) × (at.1.number ≤ head.now.sizes.cells) × MayGoOn {V = V} (register_of V head.now t.now) at.0.number | Err _ ↦ Unit {0} ] }
-{
-    let Some(crew) = Crew::of(number, head.sizes) else {
-        return Err(Refusal::NoCrew);
-    };
-    let Some(known) = Cell::of(cell, head.sizes) else {
-        return Err(Refusal::NoCell);
-    };
-    match job_barred(head, t, crew) {
-        Some(refusal) => Err(refusal),
-        None => Ok((crew, known)),
-    }
-}
-
-// The crew that may go on with its job, or the first test that refuses it.
+// The crew that may go on with its job, or the first test that refuses the call.
 pub fn admit<V>(head: &Started, t: &Tables<'_, V>, number: CrewNumber) -> Result<Crew, Refusal>
-    ensures answer { refusal_in result ≡ first_refusal (job_tests {V = V} (register_of V head.now t.now) no number.0) }
+    ensures answer { result_err result ≡ first_refusal (job_tests {V = V} (register_of V head.now t.now) no number.0) }
     ensures admitted { elim result [ Ok w ↦ (w.number ≡ number.0) × MayGoOn {V = V} (register_of V head.now t.now) w.number | Err _ ↦ Unit {0} ] }
 {
-    match wrong_table(head.sizes, t) {
-        Some(refusal) => Err(refusal),
-        None => barred(head, t, number),
-    }
+    wrong_table(head.sizes, t)?;
+    let crew = Crew::of(number, head.sizes).ok_or(Refusal::NoCrew)?;
+    can_go_on(head, t, crew)?;
+    Ok(crew)
 }
 
 // The crew that may go on with its job at the cell, and the cell, or the first test that refuses the call.
@@ -132,11 +80,12 @@ pub fn admit_at<V>(
     number: CrewNumber,
     cell: CellNumber,
 ) -> Result<(Crew, Cell), Refusal>
-    ensures answer { refusal_in result ≡ first_refusal (job_tests {V = V} (register_of V head.now t.now) (outside head.now.sizes.cells cell.0) number.0) }
+    ensures answer { result_err result ≡ first_refusal (job_tests {V = V} (register_of V head.now t.now) (outside head.now.sizes.cells cell.0) number.0) }
     ensures admitted { elim result [ Ok at ↦ (at.0.number ≡ number.0) × (at.1.number ≡ cell.0) × (at.1.number ≤ head.now.sizes.cells) × MayGoOn {V = V} (register_of V head.now t.now) at.0.number | Err _ ↦ Unit {0} ] }
 {
-    match wrong_table(head.sizes, t) {
-        Some(refusal) => Err(refusal),
-        None => barred_at(head, t, number, cell),
-    }
+    wrong_table(head.sizes, t)?;
+    let crew = Crew::of(number, head.sizes).ok_or(Refusal::NoCrew)?;
+    let known = Cell::of(cell, head.sizes).ok_or(Refusal::NoCell)?;
+    can_go_on(head, t, crew)?;
+    Ok((crew, known))
 }

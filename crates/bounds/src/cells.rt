@@ -3,7 +3,7 @@ ghost use Rattle.rules.specs.Tables.{at, most};
 ghost use Rattle.rules.specs.Registers.{register_of};
 ghost use Rattle.bounds.specs.Bounds.{cell_bound};
 
-use admission::looking::{has_written, larger};
+use admission::looking::has_written;
 use admission::numbered::Crew;
 use rules::head::Started;
 use rules::tables::Tables;
@@ -28,7 +28,7 @@ fn cell_bound<V>(head: &Started, t: &Tables<'_, V>, crew: Crew, i: usize) -> u64
     ensures { result ≡ cell_bound (register_of V head.now t.now) crew.number (i + 1) }
 {
     if has_written(head, t, crew, i) {
-        larger(written_place(t, i), read_place(t, i))
+        written_place(t, i).max(read_place(t, i))
     } else {
         0
     }
@@ -40,7 +40,7 @@ pub(crate) fn cells_bound<V>(head: &Started, t: &Tables<'_, V>, crew: Crew) -> u
 {
     let mut bound = 0;
     for i in 0..head.sizes.cells {
-        bound = larger(cell_bound(head, t, crew, i), bound);
+        bound = cell_bound(head, t, crew, i).max(bound);
     }
     bound
 }

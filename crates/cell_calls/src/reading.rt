@@ -4,7 +4,7 @@ ghost use Rattle.rules.specs.Contents.{Same};
 ghost use Rattle.admission.specs.Lent.{CallPerformed};
 
 use admission::flags::{is_written, with_read};
-use admission::looking::{larger, record_of, spot};
+use admission::looking::{record_of, spot};
 use admission::refusing::admit_at;
 use choosers::chooser::Chooser;
 use endings::ending::abandon_job;
@@ -55,7 +55,7 @@ pub fn read<V: Copy, C: Chooser>(
         return Ok(Answer::Told(told(t, true, k, i)));
     }
     let job = record_of(t, known);
-    let low = larger(job.low.0, t.written[i]);
+    let low = job.low.0.max(t.written[i]);
     if job.high.0 - 2 < low {
         return Err(Refusal::Stale(abandon_job(head, t, chooser, known)));
     }

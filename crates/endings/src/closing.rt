@@ -3,7 +3,6 @@ ghost use Rattle.rules.specs.Limits.{top};
 ghost use Rattle.rules.specs.Heads.{started_of};
 ghost use Rattle.rules.specs.JobCalls.{ended_head};
 
-use admission::looking::larger;
 use rules::head::Started;
 use terms::numbers::Place;
 use terms::records::JobRecord;
@@ -37,7 +36,7 @@ pub fn count_ended(head: &mut Started, place: Place)
     ensures { started_of head.new ≡ (if nat_lt place.0 top && nat_lt 0 head.old.active then ended_head (started_of head.old) place.0 else started_of head.old) }
 {
     if place.0 < 1 << 62 && 0 < head.active {
-        head.highest = Place(larger(head.highest.0, place.0));
+        head.highest = Place(head.highest.0.max(place.0));
         head.ended += 1;
         head.active -= 1;
     }

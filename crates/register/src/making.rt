@@ -1,4 +1,4 @@
-ghost use Rattle.std.specs.Prelude.{◌≡◌, length, replicate, Ok, Err, slice_set};
+ghost use Rattle.std.specs.Prelude.{◌≡◌, Ok, Err, slice_set};
 ghost use Rattle.rules.specs.Heads.{filling_of, started_of};
 ghost use Rattle.rules.specs.Contents.{contents_of, Same};
 ghost use Rattle.rules.specs.Making.{FillOutcome, fill_outcome, StartOutcome, start_outcome, answer_of, JustStarted};
@@ -6,8 +6,8 @@ ghost use Rattle.rules.specs.Making.{FillOutcome, fill_outcome, StartOutcome, st
 use crate::refusing::wrong_table;
 use rules::head::{Filling, Started};
 use rules::tables::Tables;
-use terms::numbers::{JobNumber, Place};
-use terms::records::{JobRecord, Standing};
+use terms::numbers::Place;
+use terms::records::JobRecord;
 use terms::refusals::Refusal;
 use values::table::ValueTable;
 
@@ -15,8 +15,7 @@ use values::table::ValueTable;
 fn store<V: Copy>(rows: &mut [V], i: usize, value: V)
     ensures { rows.new ≡ slice_set rows.old i value }
 {
-    let mut table = ValueTable::new(rows);
-    table.put(i, value);
+    ValueTable::new(rows).put(i, value);
 }
 
 // Gives the next cell its first value; past the last there is no cell.
@@ -25,24 +24,13 @@ pub fn fill<V: Copy>(head: &mut Filling, t: &mut Tables<'_, V>, value: V) -> Res
     ensures outcome { ◌≡◌ {A = FillOutcome V} (record { answer = result; head = filling_of head.new; contents = contents_of V t.new }) (fill_outcome {V = V} (filling_of head.old) (contents_of V t.old) value) }
     ensures refused { elim result [ Ok _ ↦ Unit {0} | Err _ ↦ (filling_of head.new ≡ filling_of head.old) × (contents_of V t.new ≡ contents_of V t.old) ] }
 {
-    if let Some(refusal) = wrong_table(head.sizes, t) {
-        return Err(refusal);
-    }
+    wrong_table(head.sizes, t)?;
     if head.filled == head.sizes.cells {
         return Err(Refusal::NoCell);
     }
     store(t.values, head.filled, value);
     head.filled += 1;
     Ok(())
-}
-
-// Writes one item over every item of a table.
-fn overwrite<T: Copy>(items: &mut [T], item: T)
-    ensures { items.new ≡ replicate (length items.old) item }
-{
-    for slot in items.iter_mut() {
-        *slot = item;
-    }
 }
 
 // Ends the filling: every place is 0, every job record is closed, and no flag is set.
@@ -53,24 +41,16 @@ pub fn start<V>(head: Filling, t: &mut Tables<'_, V>) -> Result<Started, (Fillin
     ensures started { elim result [ Ok s ↦ JustStarted {V = V} (started_of s) (contents_of V t.new) | Err _ ↦ Unit {0} ] }
     ensures refused { elim result [ Ok _ ↦ Unit {0} | Err e ↦ (e.0 ≡ head) × (contents_of V t.new ≡ contents_of V t.old) ] }
 {
-    if let Some(refusal) = wrong_table(head.sizes, t) {
+    if let Err(refusal) = wrong_table(head.sizes, t) {
         return Err((head, refusal));
     }
     if head.filled != head.sizes.cells {
         return Err((head, Refusal::NotFilled));
     }
-    overwrite(t.written, 0);
-    overwrite(t.read, 0);
-    overwrite(
-        t.jobs,
-        JobRecord {
-            standing: Standing::Closed,
-            job: JobNumber(0),
-            low: Place(0),
-            high: Place(0),
-        },
-    );
-    overwrite(t.flags, 0);
+    t.written.fill(0);
+    t.read.fill(0);
+    t.jobs.fill(JobRecord::closed());
+    t.flags.fill(0);
     Ok(Started {
         sizes: head.sizes,
         highest: Place(0),

@@ -1,4 +1,6 @@
-ghost use Rattle.std.specs.Prelude.{◌≡◌, None};
+ghost use Rattle.std.specs.Prelude.{◌≡◌, ◌≢◌, Ok, Err};
+ghost use Rattle.std.specs.Result.{result_err};
+ghost use Rattle.terms.specs.declared.refusals.Refusal.TheVariants.{WrongTable};
 ghost use Rattle.rules.specs.Heads.{dimensions_of};
 ghost use Rattle.rules.specs.Contents.{contents_of, Fits};
 ghost use Rattle.rules.specs.Refusing.{first_refusal, size_tests};
@@ -7,32 +9,27 @@ use rules::sizes::Sizes;
 use rules::tables::Tables;
 use terms::refusals::{Refusal, TableName};
 
-// The refusal that names the first table whose length is not the head's, if there is one.
-pub fn wrong_table<V>(sizes: Sizes, t: &Tables<'_, V>) -> Option<Refusal>
-    ensures answer { result ≡ first_refusal (size_tests {V = V} (dimensions_of sizes) (contents_of V t.now)) }
-    ensures fits { result ≡ None → Fits {V = V} (dimensions_of sizes) (contents_of V t.now) }
+// The table of this name has the wanted length, or the refusal names it.
+fn fits(length: usize, wanted: usize, name: TableName) -> Result<(), Refusal>
+    ensures { elim result [ Ok _ ↦ length ≡ wanted | Err e ↦ (length ≢ wanted) × (e ≡ WrongTable name) ] }
+{
+    if length != wanted {
+        return Err(Refusal::WrongTable(name));
+    }
+    Ok(())
+}
+
+// The tables have the head's lengths, or the refusal names the first whose length is not the head's.
+pub fn wrong_table<V>(sizes: Sizes, t: &Tables<'_, V>) -> Result<(), Refusal>
+    ensures answer { result_err result ≡ first_refusal (size_tests {V = V} (dimensions_of sizes) (contents_of V t.now)) }
+    ensures fits { elim result [ Ok _ ↦ Fits {V = V} (dimensions_of sizes) (contents_of V t.now) | Err _ ↦ Unit {0} ] }
 {
     let all = sizes.crews * sizes.cells;
-    if t.values.len() != sizes.cells {
-        return Some(Refusal::WrongTable(TableName::Values));
-    }
-    if t.written.len() != sizes.cells {
-        return Some(Refusal::WrongTable(TableName::WrittenPlaces));
-    }
-    if t.read.len() != sizes.cells {
-        return Some(Refusal::WrongTable(TableName::ReadPlaces));
-    }
-    if t.jobs.len() != sizes.crews {
-        return Some(Refusal::WrongTable(TableName::JobRecords));
-    }
-    if t.own.len() != all {
-        return Some(Refusal::WrongTable(TableName::OwnValues));
-    }
-    if t.flags.len() != all {
-        return Some(Refusal::WrongTable(TableName::Flags));
-    }
-    if t.book.len() != sizes.entries {
-        return Some(Refusal::WrongTable(TableName::Book));
-    }
-    None
+    fits(t.values.len(), sizes.cells, TableName::Values)?;
+    fits(t.written.len(), sizes.cells, TableName::WrittenPlaces)?;
+    fits(t.read.len(), sizes.cells, TableName::ReadPlaces)?;
+    fits(t.jobs.len(), sizes.crews, TableName::JobRecords)?;
+    fits(t.own.len(), all, TableName::OwnValues)?;
+    fits(t.flags.len(), all, TableName::Flags)?;
+    fits(t.book.len(), sizes.entries, TableName::Book)
 }
