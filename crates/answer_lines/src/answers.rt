@@ -34,8 +34,5 @@ pub fn write_answers<K: Kind>(
 ) -> Result<(), Refusal>
     ensures { LinesWritten (map (λ e. answer_line K.form e.answer) list.now) paper.old result paper.new }
 {
-    for exchange in list {
-        write_answer(paper, &exchange.answer)?;
-    }
-    Ok(())
+    paper.write_each(list, |paper, exchange| write_answer(paper, &exchange.answer))
 }

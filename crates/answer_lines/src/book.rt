@@ -33,8 +33,5 @@ pub fn write_entry(paper: &mut Paper<'_>, entry: &Entry) -> Result<(), Refusal>
 pub fn write_entries(paper: &mut Paper<'_>, entries: &[Entry]) -> Result<(), Refusal>
     ensures { LinesWritten (map entry_line entries.now) paper.old result paper.new }
 {
-    for entry in entries {
-        write_entry(paper, entry)?;
-    }
-    Ok(())
+    paper.write_each(entries, write_entry)
 }

@@ -1,6 +1,6 @@
-ghost use Rattle.std.specs.Prelude.{◌≡◌, map, None};
+ghost use Rattle.std.specs.Prelude.{◌≡◌, ℕ, List, map, None};
 ghost use Rattle.output.specs.Lines.{line_of, refusal_line, value_line};
-ghost use Rattle.output.specs.Lent.{LineWritten, LinesWritten};
+ghost use Rattle.output.specs.Lent.{LineWritten, LinesWritten, WritesLine};
 
 use crate::lines::Lead;
 use crate::paper::Paper;
@@ -52,13 +52,25 @@ impl Paper<'_> {
         self.write_fields(Lead::Letter(b'V'), value)
     }
 
+    // Writes a line for each item of a list, until one finds no room.
+    pub fn write_each<T, F: Fn(&mut Paper<'_>, &T) -> Result<(), Refusal>>(
+        &mut self,
+        items: &[T],
+        write: F,
+    ) -> Result<(), Refusal>
+        requires callable { F.IsAlwaysCallable write }
+        ensures { (line : T → List ℕ) → WritesLine (F.post write) line → LinesWritten (map line items.now) self.old result self.new }
+    {
+        for item in items {
+            write(self, item)?;
+        }
+        Ok(())
+    }
+
     // Writes a line for each of a table's values, until one finds no room.
     pub fn write_values<K: Kind>(&mut self, values: &[K]) -> Result<(), Refusal>
         ensures { LinesWritten (map (value_line K.form) values.now) self.old result self.new }
     {
-        for value in values {
-            self.write_value(value)?;
-        }
-        Ok(())
+        self.write_each(values, |paper, value| paper.write_value(value))
     }
 }
