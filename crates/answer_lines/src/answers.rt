@@ -1,10 +1,9 @@
 ghost use Rattle.std.specs.Prelude.{map};
-ghost use Rattle.output.specs.Papers.{Written, WrittenAll};
+ghost use Rattle.output.specs.Lent.{LineWritten, LinesWritten};
 ghost use Rattle.answer_lines.specs.Answers.{answer_line};
 
-use output::answers::{write_fields, write_refusal};
-use output::count::Count;
-use output::lines::{Lead, write_line};
+use output::lines::Lead;
+use output::paper::Paper;
 use rules::calls::Answer;
 use runs::exchange::Exchange;
 use terms::refusals::Refusal;
@@ -14,31 +13,26 @@ const PLUS: Lead = Lead::Letter(b'+');
 
 // Writes the line of a job call's answer: `+`, then what the call is told; or the line of its refusal.
 pub fn write_answer<K: Kind>(
-    count: &mut Count,
-    out: &mut [u8],
+    paper: &mut Paper<'_>,
     answer: &Result<Answer<K>, Refusal>,
 ) -> Result<(), Refusal>
-    ensures { Written (answer_line K.form answer.now) count.old out.old result count.new out.new }
+    ensures { LineWritten (answer_line K.form answer.now) paper.old result paper.new }
 {
     match *answer {
-        Ok(Answer::Opened(job)) => write_line(count, out, PLUS, &[job.0], None),
-        Ok(Answer::Told(value)) => write_fields(count, out, PLUS, &value),
-        Ok(Answer::Stored) => write_line(count, out, PLUS, &[], None),
-        Ok(Answer::Ended(place)) => write_line(count, out, PLUS, &[place.0], None),
-        Err(refusal) => write_refusal(count, out, refusal),
+        Ok(Answer::Opened(job)) => paper.write_line(PLUS, &[job.0], None),
+        Ok(Answer::Told(value)) => paper.write_fields(PLUS, &value),
+        Ok(Answer::Stored) => paper.write_line(PLUS, &[], None),
+        Ok(Answer::Ended(place)) => paper.write_line(PLUS, &[place.0], None),
+        Err(refusal) => paper.write_refusal(refusal),
     }
 }
 
 // Writes a line for the answer of each of a run's exchanges, until one finds no room.
 pub fn write_answers<K: Kind>(
-    count: &mut Count,
-    out: &mut [u8],
+    paper: &mut Paper<'_>,
     list: &[Exchange<K>],
 ) -> Result<(), Refusal>
-    ensures { WrittenAll (map (λ e. answer_line K.form e.answer) list.now) count.old out.old result count.new out.new }
+    ensures { LinesWritten (map (λ e. answer_line K.form e.answer) list.now) paper.old result paper.new }
 {
-    for exchange in list {
-        write_answer(count, out, &exchange.answer)?;
-    }
-    Ok(())
+    paper.write_each(list, |paper, exchange| write_answer(paper, &exchange.answer))
 }

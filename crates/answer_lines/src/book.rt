@@ -1,9 +1,9 @@
 ghost use Rattle.std.specs.Prelude.{◌≡◌, map};
-ghost use Rattle.output.specs.Papers.{Written, WrittenAll};
+ghost use Rattle.output.specs.Lent.{LineWritten, LinesWritten};
 ghost use Rattle.answer_lines.specs.Answers.{ending_letter, entry_line};
 
-use output::count::Count;
-use output::lines::{Lead, write_line};
+use output::lines::Lead;
+use output::paper::Paper;
 use terms::records::{Ending, Entry};
 use terms::refusals::Refusal;
 
@@ -18,13 +18,11 @@ fn ending_letter(ending: Ending) -> u8
 }
 
 // Writes the line of an entry of the day book: `B`, the job, its crew, its place, and how it ended.
-pub fn write_entry(count: &mut Count, out: &mut [u8], entry: &Entry) -> Result<(), Refusal>
-    ensures { Written (entry_line entry.now) count.old out.old result count.new out.new }
+pub fn write_entry(paper: &mut Paper<'_>, entry: &Entry) -> Result<(), Refusal>
+    ensures { LineWritten (entry_line entry.now) paper.old result paper.new }
 {
     let numbers = [entry.job.0, entry.crew.0, entry.place.0];
-    write_line(
-        count,
-        out,
+    paper.write_line(
         Lead::Letter(b'B'),
         &numbers,
         Some(ending_letter(entry.ending)),
@@ -32,11 +30,8 @@ pub fn write_entry(count: &mut Count, out: &mut [u8], entry: &Entry) -> Result<(
 }
 
 // Writes a line for each entry of the day book, until one finds no room.
-pub fn write_entries(count: &mut Count, out: &mut [u8], entries: &[Entry]) -> Result<(), Refusal>
-    ensures { WrittenAll (map entry_line entries.now) count.old out.old result count.new out.new }
+pub fn write_entries(paper: &mut Paper<'_>, entries: &[Entry]) -> Result<(), Refusal>
+    ensures { LinesWritten (map entry_line entries.now) paper.old result paper.new }
 {
-    for entry in entries {
-        write_entry(count, out, entry)?;
-    }
-    Ok(())
+    paper.write_each(entries, write_entry)
 }

@@ -1,4 +1,5 @@
 pub mod Writing
 pub mod Pieces
-pub mod Commas
 pub mod Papers
+pub mod Lent
+pub mod Commas

@@ -1,26 +1,22 @@
 -- What a written line, or one that is taken back, makes of the paper.
-use Rattle.std.proofs.Common.{◌≡◌, ℕ, ◌+◌, ◌<◌, ◌≤◌, Bool, true, false, cond, not, leb, List, [], ◌∷◌, ◌++◌, map, length, get_or, take, drop, is_ok, is_err, Ok, Result, sym, refl, ap, ◌∙◌, subst, ⊎_elim, arith}
-use Rattle.std.proofs.lemmas.List.{append_assoc, length-append, length-take-le, take_at, take_all, take-append-drop, map-append, map_more}
-use Rattle.std.proofs.lemmas.Bool.{leb-true, leb-false, le-leb, lt-leb, cases_lt, cond-true}
+use Rattle.std.proofs.Common.{◌≡◌, ℕ, ◌+◌, ◌<◌, ◌≤◌, Bool, true, false, cond, not, leb, List, [], ◌∷◌, ◌++◌, length, take, is_ok, is_err, Ok, Err, Result, sym, refl, ap, ◌∙◌, subst, ⊎_elim, arith}
+use Rattle.std.proofs.lemmas.List.{length-append, length-take-le, take_all}
+use Rattle.std.proofs.lemmas.Bool.{leb-true, le-leb, lt-leb, cases_lt, cond-true}
 use Rattle.terms.specs.declared.refusals.Refusal.{Refusal}
 use Rattle.output.specs.Laid.{laid}
 use Rattle.output.specs.Pieces.{Writes}
 use Rattle.output.specs.declared.count.Count.{Count}
 use Rattle.output.specs.Papers.{Paper, added, added_to, added_all, empty, ended, printed, paper_of, answered, Written, WrittenAll}
 use Rattle.output.specs.Lines.{stop_line}
+use Rattle.output.proofs.Writing.{take_past_laid}
+use Rattle.output.proofs.Pieces.{fits, lacks}
 
-pub take_past_laid : (xs : List ℕ) (at : ℕ) (ps : List ℕ) → at ≤ length xs → take (at + length ps) (laid xs at ps) ≡ take at xs ++ ps
-unfolding laid
-take_past_laid xs at ps h =
-    ap (take (at + length ps)) (sym (append_assoc (take at xs) ps (drop (at + length ps) xs)))
-    ∙ take_at (take at xs ++ ps) (drop (at + length ps) xs) (at + length ps) (length-append (take at xs) ps ∙ ap (λ (n : ℕ). n + length ps) (length-take-le at xs h))
-
-pub paper_added : (u : ℕ) (xs line : List ℕ) (v : ℕ) (ys : List ℕ) → Writes u xs line true v ys
+pub paper_added : (u : ℕ) (xs line : List ℕ) (v : ℕ) (ys : List ℕ) → Writes u xs line (Ok tt) v ys
     → ◌≡◌ {A = Paper} (record { text = take v ys; full = false }) (added (length xs) line (record { text = take u xs; full = false }))
 paper_added u xs line v ys d =
-    let room = leb-true (u + length line + 64) (length xs) (sym d.fits) in
+    let room = fits u xs line v ys d in
     let t : take v ys ≡ take u xs ++ line = ap (λ (n : ℕ). take n ys) (d.used refl) ∙ ap (take (u + length line)) (d.text refl) ∙ take_past_laid xs u line (omega arith) in
-    let f : leb (length (take u xs) + length line + 64) (length xs) ≡ true = ap (λ (n : ℕ). leb (n + length line + 64) (length xs)) (length-take-le u xs (omega arith)) ∙ sym d.fits in
+    let f : leb (length (take u xs) + length line + 64) (length xs) ≡ true = le-leb _ _ (omega (arith, room, length-take-le u xs (omega arith))) in
     ap (λ (s : List ℕ). record { text = s; full = false }) t ∙ sym (ap (λ (b : Bool). added_to false b (take u xs) line) f)
 
 still_full : (u : ℕ) (xs line : List ℕ) → length xs < u + length line + 64 → length xs < length (take u xs) + length line + 64
@@ -30,13 +26,11 @@ still_full u xs line h =
     (λ (a : length xs ≤ u). omega (arith, ap length (take_all u xs a)))
     (cases_lt u (length xs))
 
-pub paper_full : (u : ℕ) (xs line : List ℕ) (v w : ℕ) (ys : List ℕ) → Writes u xs line false v ys → w ≡ u
-    → ◌≡◌ {A = Paper} (record { text = take w ys; full = true }) (added (length xs) line (record { text = take u xs; full = false }))
-paper_full u xs line v w ys d e =
-    let lack = leb-false (u + length line + 64) (length xs) (sym d.fits) in
-    let f : leb (length (take u xs) + length line + 64) (length xs) ≡ false = lt-leb _ _ (still_full u xs line (omega arith)) in
-    ap (λ (n : ℕ). record { text = take n ys; full = true }) e ∙ ap (λ (s : List ℕ). record { text = s; full = true }) d.below
-    ∙ sym (ap (λ (b : Bool). added_to false b (take u xs) line) f)
+pub paper_full : (u : ℕ) (xs line : List ℕ) (e : Refusal) (v : ℕ) (ys : List ℕ) → Writes u xs line (Err e) v ys
+    → ◌≡◌ {A = Paper} (record { text = take u ys; full = true }) (added (length xs) line (record { text = take u xs; full = false }))
+paper_full u xs line e v ys d =
+    let f : leb (length (take u xs) + length line + 64) (length xs) ≡ false = lt-leb _ _ (still_full u xs line (lacks u xs line e v ys d)) in
+    ap (λ (s : List ℕ). record { text = s; full = true }) d.below ∙ sym (ap (λ (b : Bool). added_to false b (take u xs) line) f)
 
 ---- Lines, one after another
 
@@ -96,31 +90,8 @@ rest_unwritten ls ms c out r c' out' e a =
       reserve = a.reserve;
     }
 
-written_as : (ls ms : List (List ℕ)) (c : Count) (out : List ℕ) (r : Result (Unit {0}) Refusal) (c' : Count) (out' : List ℕ) → ls ≡ ms → WrittenAll ls c out r c' out' → WrittenAll ms c out r c' out'
+pub written_as : (ls ms : List (List ℕ)) (c : Count) (out : List ℕ) (r : Result (Unit {0}) Refusal) (c' : Count) (out' : List ℕ) → ls ≡ ms → WrittenAll ls c out r c' out' → WrittenAll ms c out r c' out'
 written_as ls ms c out r c' out' e a = let P : List (List ℕ) → Type 0 = λ ks. WrittenAll ks c out r c' out' in subst P e a
-
----- A line for each item of a list
-
--- one item more
-pub next_written : {V : Type 0} (line : V → List ℕ) (vs : List V) (i : ℕ) (v : V) (c : Count) (out : List ℕ) (d : Count) (mid : List ℕ) (r : Result (Unit {0}) Refusal) (c' : Count) (out' : List ℕ)
-    → i < length vs → v ≡ get_or vs i v → WrittenAll (map line (take i vs)) c out (Ok tt) d mid → length mid ≡ length out → Written (line v) d mid r c' out'
-    → WrittenAll (map line (take (i + 1) vs)) c out r c' out'
-next_written {V} line vs i v c out d mid r c' out' h e a l w =
-    let more : map line (take i vs) ++ (line v ∷ []) ≡ map line (take (i + 1) vs)
-    = ap (λ (u : V). map line (take i vs) ++ (line u ∷ [])) e ∙ sym (map_more line vs i v h) in
-    written_as _ _ c out r c' out' more (one_more_written (map line (take i vs)) (line v) c out d mid r c' out' a l w)
-
--- the first of them, and no more
-pub first_written : {V : Type 0} (line : V → List ℕ) (vs : List V) (i : ℕ) (c : Count) (out : List ℕ) (r : Result (Unit {0}) Refusal) (c' : Count) (out' : List ℕ)
-    → is_err r ≡ true → WrittenAll (map line (take i vs)) c out r c' out' → WrittenAll (map line vs) c out r c' out'
-first_written line vs i c out r c' out' e a =
-    let all : map line (take i vs) ++ map line (drop i vs) ≡ map line vs = sym (map-append line (take i vs) (drop i vs)) ∙ ap (map line) (take-append-drop i vs) in
-    written_as _ _ c out r c' out' all (rest_unwritten (map line (take i vs)) (map line (drop i vs)) c out r c' out' e a)
-
--- all of them
-pub all_written : {V : Type 0} (line : V → List ℕ) (vs : List V) (i : ℕ) (c : Count) (out : List ℕ) (r : Result (Unit {0}) Refusal) (c' : Count) (out' : List ℕ)
-    → length vs ≤ i → WrittenAll (map line (take i vs)) c out r c' out' → WrittenAll (map line vs) c out r c' out'
-all_written line vs i c out r c' out' h a = written_as _ _ c out r c' out' (ap (map line) (take_all i vs h)) a
 
 ---- The end of an output that found no room
 

@@ -2,4 +2,4 @@ pub mod Laid
 pub mod Lines
 pub mod Papers
 pub mod Pieces
-pub mod Guarded
+pub mod Lent

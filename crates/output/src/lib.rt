@@ -3,6 +3,7 @@
 
 pub mod answers;
 pub mod count;
-mod digits;
 mod guard;
 pub mod lines;
+pub mod paper;
+mod parts;

@@ -1,16 +1,16 @@
-ghost use Rattle.std.specs.Prelude.{◌≡◌, ◌*◌, ◌≤◌, [], ◌∷◌, length};
+ghost use Rattle.std.specs.Prelude.{◌≡◌, ◌*◌, ◌^◌, ◌<◌, ◌≤◌, [], ◌∷◌, length};
+ghost use Rattle.std.specs.Mem.{type_size};
 ghost use Rattle.text.specs.Split.{lines_of};
 ghost use Rattle.rules.specs.Contents.{contents_of, Fits};
 ghost use Rattle.rules.specs.Heads.{dimensions_of};
-ghost use Rattle.output.specs.Papers.{WrittenAll};
+ghost use Rattle.output.specs.Lent.{LinesWritten};
 ghost use Rattle.stages.specs.declared.stage.Stage.TheVariants.{Cells};
 ghost use Rattle.schedule.specs.Accounts.{at_cells, of_kind};
 ghost use Rattle.schedule.specs.Ranges.{InRange};
 
 use crate::making::make_register;
 use crate::reading::Opening;
-use output::answers::{write_refusal, write_values};
-use output::count::Count;
+use output::paper::Paper;
 use rules::sizes::Sizes;
 use rules::tables::Tables;
 use stages::head_line::{HeadLine, KindName};
@@ -27,15 +27,14 @@ fn print_made<K: Kind>(
     t: &mut Tables<'_, K>,
     reader: &mut Reader,
     text: &[u8],
-    count: &mut Count,
-    out: &mut [u8],
+    paper: &mut Paper<'_>,
 ) -> Result<(), Refusal>
     requires { (Fits {V = K} (dimensions_of sizes) (contents_of K t.old)) × (reader.old ≡ record { stage = Cells; left = sizes.cells; width = K.form.width }) }
-    ensures { WrittenAll (at_cells K.form sizes.cells 3 [] (lines_of text.now)) count.old out.old result count.new out.new }
+    ensures { LinesWritten (at_cells K.form sizes.cells 3 [] (lines_of text.now)) paper.old result paper.new }
 {
     match make_register(sizes, t, reader, text) {
-        Ok(_) => write_values(count, out, t.values),
-        Err(bad) => write_refusal(count, out, Refusal::BadLine(bad)),
+        Ok(_) => paper.write_values(t.values),
+        Err(bad) => paper.write_refusal(Refusal::BadLine(bad)),
     }
 }
 
@@ -73,33 +72,13 @@ fn rows_of(crews: usize, cells: usize) -> usize
     crews * cells
 }
 
-// Takes the front of each of seven tables, as long as this register wants it, and prints what its lines make of it.
-fn print_front<K: Kind>(
-    opening: Opening<'_>,
-    values: &mut [K],
-    written: &mut [u64],
-    read: &mut [u64],
-    jobs: &mut [JobRecord],
-    own: &mut [K],
-    flags: &mut [u8],
-    book: &mut [Entry],
-    count: &mut Count,
-    out: &mut [u8],
-) -> Result<(), Refusal>
-    requires { (InRange opening.head) × ((opening.reader ≡ record { stage = Cells; left = opening.head.cells; width = 0 }) × ((64 ≤ length values.old) × (64 ≤ length written.old) × (64 ≤ length read.old) × (8 ≤ length jobs.old) × (512 ≤ length own.old) × (512 ≤ length flags.old) × (256 ≤ length book.old))) }
-    ensures { WrittenAll (at_cells K.form opening.entry.head.cells 3 [] (lines_of opening.entry.rest.now)) count.old out.old result count.new out.new }
+// The front of each table, as long as a register of these sizes wants it.
+fn cut<K>(memory: Tables<'_, K>, sizes: Sizes) -> Tables<'_, K>
+    requires { (((sizes.cells ≤ 64) × (sizes.crews ≤ 8)) × (sizes.entries ≤ 256)) × ((64 ≤ length memory.values.now) × (64 ≤ length memory.written.now) × (64 ≤ length memory.read.now) × (8 ≤ length memory.jobs.now) × (512 ≤ length memory.own.now) × (512 ≤ length memory.flags.now) × (256 ≤ length memory.book.now)) }
+    ensures { Fits {V = K} (dimensions_of sizes) (contents_of K result) }
 {
-    let sizes = sizes_of(opening.head);
-    let (cells, crews, entries) = (sizes.cells, sizes.crews, sizes.entries);
-    let rows = rows_of(crews, cells);
-    let values = &mut values[0..cells];
-    let written = &mut written[0..cells];
-    let read = &mut read[0..cells];
-    let jobs = &mut jobs[0..crews];
-    let own = &mut own[0..rows];
-    let flags = &mut flags[0..rows];
-    let book = &mut book[0..entries];
-    let mut t = Tables {
+    let rows = rows_of(sizes.crews, sizes.cells);
+    let Tables {
         values,
         written,
         read,
@@ -107,70 +86,55 @@ fn print_front<K: Kind>(
         own,
         flags,
         book,
-    };
-    let mut reader = opening.reader;
-    reader.width = K::count();
-    print_made(sizes, &mut t, &mut reader, opening.rest, count, out)
+    } = memory;
+    Tables {
+        values: &mut values[0..sizes.cells],
+        written: &mut written[0..sizes.cells],
+        read: &mut read[0..sizes.cells],
+        jobs: &mut jobs[0..sizes.crews],
+        own: &mut own[0..rows],
+        flags: &mut flags[0..rows],
+        book: &mut book[0..sizes.entries],
+    }
 }
 
-// Lays out the other tables for the largest register of a schedule, 8 crews and 256 entries over 64 cells, and prints what
-// the lines make of them.
-fn print_kind<K: Kind>(
-    opening: Opening<'_>,
-    values: &mut [K],
-    own: &mut [K],
-    count: &mut Count,
-    out: &mut [u8],
-) -> Result<(), Refusal>
-    requires { (InRange opening.head) × ((opening.reader ≡ record { stage = Cells; left = opening.head.cells; width = 0 }) × ((64 ≤ length values.old) × (512 ≤ length own.old))) }
-    ensures { WrittenAll (at_cells K.form opening.entry.head.cells 3 [] (lines_of opening.entry.rest.now)) count.old out.old result count.new out.new }
+// Lays out the tables for the largest register of a schedule, 8 crews and 256 entries over 64 cells, takes the front of
+// each as long as this register wants it, and prints what its lines make of it.
+fn print_kind<K: Kind>(opening: Opening<'_>, paper: &mut Paper<'_>) -> Result<(), Refusal>
+    requires small { 512 * type_size K.row < 2 ^ 63 }
+    requires opened { (InRange opening.head) × (opening.reader ≡ record { stage = Cells; left = opening.head.cells; width = 0 }) }
+    ensures { LinesWritten (at_cells K.form opening.entry.head.cells 3 [] (lines_of opening.entry.rest.now)) paper.old result paper.new }
 {
+    let sizes = sizes_of(opening.head);
+    let mut values = [K::blank(); 64];
     let mut written = [0; 64];
     let mut read = [0; 64];
     let mut jobs = [NO_JOB; 8];
+    let mut own = [K::blank(); 512];
     let mut flags = [0; 512];
     let mut book = [NO_ENTRY; 256];
-    print_front(
-        opening,
-        values,
-        &mut written,
-        &mut read,
-        &mut jobs,
-        own,
-        &mut flags,
-        &mut book,
-        count,
-        out,
-    )
+    let memory = Tables {
+        values: &mut values,
+        written: &mut written,
+        read: &mut read,
+        jobs: &mut jobs,
+        own: &mut own,
+        flags: &mut flags,
+        book: &mut book,
+    };
+    let mut t = cut(memory, sizes);
+    let mut reader = opening.reader;
+    reader.width = K::count();
+    print_made(sizes, &mut t, &mut reader, opening.rest, paper)
 }
 
 // Prints the account of a schedule whose first two lines were read.
-pub(crate) fn print_opened(
-    opening: Opening<'_>,
-    count: &mut Count,
-    out: &mut [u8],
-) -> Result<(), Refusal>
+pub(crate) fn print_opened(opening: Opening<'_>, paper: &mut Paper<'_>) -> Result<(), Refusal>
     requires { (InRange opening.head) × (opening.reader ≡ record { stage = Cells; left = opening.head.cells; width = 0 }) }
-    ensures { WrittenAll (of_kind opening.entry.head.kind opening.entry.head.cells (lines_of opening.entry.rest.now)) count.old out.old result count.new out.new }
+    ensures { LinesWritten (of_kind opening.entry.head.kind opening.entry.head.cells (lines_of opening.entry.rest.now)) paper.old result paper.new }
 {
     match opening.head.kind {
-        KindName::Card => {
-            let mut values = [Card {
-                serial: 0,
-                litres: 0,
-                gateway: 0,
-            }; 64];
-            let mut own = [Card {
-                serial: 0,
-                litres: 0,
-                gateway: 0,
-            }; 512];
-            print_kind(opening, &mut values, &mut own, count, out)
-        }
-        KindName::Dial => {
-            let mut values = [Dial { number: 0 }; 64];
-            let mut own = [Dial { number: 0 }; 512];
-            print_kind(opening, &mut values, &mut own, count, out)
-        }
+        KindName::Card => print_kind::<Card>(opening, paper),
+        KindName::Dial => print_kind::<Dial>(opening, paper),
     }
 }

@@ -1,9 +1,0 @@
-use Rattle.std.proofs.Common.{map, take, Ok}
-use Rattle.output.specs.Papers.{WrittenAll}
-use Rattle.answer_lines.specs.Answers.{entry_line}
-use Rattle.answer_lines.proofs.book.write_entries.Given as goal
-
--- the lines of the first entries are written
-abbrev pub invariant-loop-entry : goal.invariant-loop-entry
-invariant-loop-entry l =
-    WrittenAll (map entry_line (take l.entry-index l.entries)) l.initial.count l.initial.out (Ok tt) l.count l.out

@@ -1,9 +1,0 @@
-use Rattle.std.proofs.Common.{map, take, Ok}
-use Rattle.output.specs.Lines.{value_line}
-use Rattle.output.specs.Papers.{WrittenAll}
-use Rattle.output.proofs.answers.write_values.Given as goal
-
--- the lines of the first values are written
-abbrev pub invariant-loop-value : goal.invariant-loop-value
-invariant-loop-value g l =
-    WrittenAll (map (value_line g.K.Kind.form) (take l.value-index l.values)) l.initial.count l.initial.out (Ok tt) l.count l.out
