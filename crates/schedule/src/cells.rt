@@ -6,7 +6,7 @@ ghost use Rattle.rules.specs.Making.{one_more_filled, with_value};
 ghost use Rattle.schedule.specs.Accounts.{at_cells, bad_line};
 ghost use Rattle.schedule.specs.Filling.{FilledTo};
 
-use crate::reading::cell_line;
+use crate::reading::{read_cell, read_next};
 use register::making::fill;
 use rules::head::Filling;
 use rules::tables::Tables;
@@ -39,7 +39,7 @@ pub(crate) fn fill_cells<'a, K: Kind>(
     let cells = head.sizes.cells;
     let mut rest = text;
     for i in 0..cells {
-        let (value, after) = cell_line::<K>(reader, 3 + i, rest)?;
+        let (value, after) = read_next(reader, 3 + i, rest, read_cell::<K>)?;
         fill_next(head, t, value);
         rest = after;
     }

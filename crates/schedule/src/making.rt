@@ -38,10 +38,8 @@ fn read_calls<K: Kind>(reader: &mut Reader, number: usize, text: &[u8]) -> Resul
     if text.is_empty() {
         return Ok(());
     }
-    match next_line(reader, number, text) {
-        Ok(_) => Ok(()),
-        Err(bad) => Err(bad),
-    }
+    next_line(reader, number, text)?;
+    Ok(())
 }
 
 // Makes a register from the lines of its cells and calls: fills it, starts it, and makes its calls.
