@@ -24,7 +24,7 @@ pub no_lines : (xs : List ℕ) → eqb (length xs) 0 ≡ true → lines_of xs �
 no_lines [] h = refl
 no_lines (x ∷ xs) h = absurd (omega (arith, eqb-true (length (x ∷ xs)) 0 h))
 
-first_line : (xs : List ℕ) → eqb (length xs) 0 ≡ false → lines_of xs ≡ before 10 xs ∷ lines_of (after 10 xs)
+pub first_line : (xs : List ℕ) → eqb (length xs) 0 ≡ false → lines_of xs ≡ before 10 xs ∷ lines_of (after 10 xs)
 first_line [] h = absurd cc
 first_line (x ∷ xs) h = lines_are x xs
 

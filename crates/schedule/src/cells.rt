@@ -39,7 +39,7 @@ pub(crate) fn fill_cells<'a, K: Kind>(
     let cells = head.sizes.cells;
     let mut rest = text;
     for i in 0..cells {
-        let (value, after) = read_next(reader, 3 + i, rest, read_cell::<K>)?;
+        let (value, after) = read_next(reader, 3 + i, rest, |line| read_cell(line))?;
         fill_next(head, t, value);
         rest = after;
     }

@@ -52,13 +52,6 @@ pub(crate) fn read_next<'a, T, F: FnOnce(&[u8]) -> Result<T, BadField>>(
     Ok((value, rest))
 }
 
-// Reads a chooser line. No call asks it for a place yet, so a script's numbers are read and let go.
-fn pass_chooser(line: &[u8]) -> Result<(), BadField>
-    ensures { result ≡ let_go (read_chooser 256 line.now) }
-{
-    read_chooser(line, &mut [0; 256]).map(|_| ())
-}
-
 // Reads a cell's value, which stands behind the line's letter.
 pub(crate) fn read_cell<K: Kind>(line: &[u8]) -> Result<K, BadField>
     ensures { result ≡ read_cell K.form line.now }
@@ -88,6 +81,9 @@ pub(crate) fn read_opening<'a>(text: &'a [u8]) -> Result<Opening<'a>, BadLine>
     };
     let (head, rest) = read_next(&mut reader, 1, text, read_head)?;
     reader.left = head.cells as usize;
-    let ((), rest) = read_next(&mut reader, 2, rest, pass_chooser)?;
+    // No call asks the chooser for a place yet, so that it is let go.
+    let ((), rest) = read_next(&mut reader, 2, rest, |line| {
+        read_chooser(line, &mut [0; 256]).map(|_| ())
+    })?;
     Ok(Opening { head, reader, rest })
 }

@@ -1,9 +1,10 @@
-use Rattle.std.proofs.Common.{ℕ, ◌<◌, refl, ap, ◌∙◌, subst, arith}
+use Rattle.std.proofs.Common.{rules, ℕ, ◌<◌, refl, ap, ◌∙◌, subst, arith}
 use Rattle.std.proofs.lemmas.Result.{err_from_is_err_and}
 use Rattle.rules.specs.Heads.{Dimensions, FillingHead, filling_of}
 use Rattle.rules.specs.Contents.{contents_of}
 use Rattle.rules.proofs.Lending.{same_none, same_then}
 use Rattle.text.specs.Split.{lines_of}
+use Rattle.schedule.specs.Accounts.{read_cell}
 use Rattle.schedule.specs.Filling.{FilledTo}
 use Rattle.schedule.proofs.Filling.{cell_bad, cell_filled}
 use Rattle.schedule.proofs.cells.fill_cells.Goals as goal
@@ -17,7 +18,7 @@ returns-in_err-value g c =
     let cells = ap (λ (d : Dimensions). d.cells) c.loop-i.invariant.2 in
     let lt : c.loop-i.i < c.loop-i.head.sizes.cells = omega (arith, cells, c.loop-i-test.true) in
     let bad = cell_bad g.K.Kind.form (lines_of c.args.text.now) c.loop-i.i (filling_of c.loop-i.head) (contents_of _ c.loop-i.t) c.loop-i.reader (lines_of c.loop-i.rest.now) c.in_err-value.field-0.0
-    c.loop-i.invariant.0 lt c.in_err-value.ensures in
+    c.loop-i.invariant.0 lt (c.in_err-value.ensures.wanted (read_cell g.K.Kind.form) (λ l r h. search rules)) in
     record {
       same = c.loop-i.invariant.1;
       sizes = c.loop-i.invariant.2;
@@ -33,10 +34,10 @@ pub loop-i-preserved : goal.loop-i-preserved
 loop-i-preserved g c =
     let cells = ap (λ (d : Dimensions). d.cells) c.loop-i.invariant.2 in
     let lt : c.loop-i.i < c.loop-i.head.sizes.cells = omega (arith, cells, c.loop-i-test.true) in
-    let line = c.in_ok-value.ensures in (
+    let line = c.in_ok-value.ensures.wanted (read_cell g.K.Kind.form) (λ l r h. search rules) in (
       cell_filled g.K.Kind.form (lines_of c.args.text.now) c.loop-i.i (filling_of c.loop-i.head) (filling_of c.fill_next.new.head) (contents_of _ c.loop-i.t) (contents_of _ c.fill_next.new.t)
-          c.loop-i.reader c.cell_line.new.reader (lines_of c.loop-i.rest.now) (lines_of c.in_ok-value.after.now) c.in_ok-value.value
-          c.loop-i.invariant.0 lt line.0 line.1 c.fill_next.ensures.filled c.fill_next.ensures.contents,
+          c.loop-i.reader c.read_next.new.reader (lines_of c.loop-i.rest.now) (lines_of c.in_ok-value.after.now) c.in_ok-value.value
+          c.loop-i.invariant.0 lt line c.in_ok-value.ensures.moved c.fill_next.ensures.filled c.fill_next.ensures.contents,
       same_then _ _ _ _ c.loop-i.invariant.1 c.fill_next.ensures.same,
       ap (λ (h : FillingHead). h.sizes) c.fill_next.ensures.filled ∙ c.loop-i.invariant.2,
     )
