@@ -1,8 +1,7 @@
 -- One cell more.
-use Rattle.std.proofs.Common.{◌≡◌, ℕ, suc, ◌+◌, ◌-◌, ◌<◌, ◌≤◌, Bool, cond, leb, List, [], ◌∷◌, ◌++◌, length, take, set, sym, ap, ◌∙◌, subst, ⊎_elim, arith}
-use Rattle.std.proofs.lemmas.List.{take_more_set, take_all, length-set}
+use Rattle.std.proofs.Common.{◌≡◌, ℕ, suc, ◌+◌, ◌-◌, ◌<◌, ◌≤◌, Bool, cond, leb, List, [], ◌∷◌, ◌++◌, length, take, set, sym, ap, ◌∙◌, ⊎_elim, arith}
+use Rattle.std.proofs.lemmas.List.{take_more_set, length-set}
 use Rattle.std.proofs.lemmas.Bool.{le-leb, lt-leb, cases_lt}
-use Rattle.terms.specs.declared.refusals.BadLine.{BadLine}
 use Rattle.values.specs.Forms.{Form}
 use Rattle.rules.specs.Heads.{Dimensions, FillingHead}
 use Rattle.rules.specs.Contents.{Contents, Fits}
@@ -10,7 +9,7 @@ use Rattle.rules.specs.Making.{one_more_filled, with_value}
 use Rattle.stages.specs.declared.stage.Reader.{Reader}
 use Rattle.stages.specs.declared.stage.Stage.TheVariants.{Cells, Calls}
 use Rattle.stages.specs.Stages.{moved_on}
-use Rattle.schedule.specs.Accounts.{Lines, wanted, read_cell, at_cells, at_calls, bad_line}
+use Rattle.schedule.specs.Accounts.{Lines, wanted, read_cell, at_cells}
 use Rattle.schedule.specs.Filling.{FilledTo}
 
 -- what the next cell's line leads to
@@ -25,21 +24,10 @@ one_wanted form cells i k values ls h =
     ap (λ (left : ℕ). at_cells form left k values ls) e
 
 -- while a cell is left, the reader stands among the cells
-pub among_cells : {V : Type 0} (form : Form V) (lines : Lines) (i : ℕ) (head : FillingHead) (t : Contents V) (reader : Reader) (rest : Lines)
+among_cells : {V : Type 0} (form : Form V) (lines : Lines) (i : ℕ) (head : FillingHead) (t : Contents V) (reader : Reader) (rest : Lines)
     → FilledTo form lines i head t reader rest → i < head.sizes.cells → reader ≡ record { stage = Cells; left = head.sizes.cells - i; width = form.width }
 among_cells form lines i head t reader rest f h =
     f.stands ∙ ap (λ (b : Bool). record { stage = cond b Calls Cells; left = head.sizes.cells - i; width = form.width }) (lt-leb (head.sizes.cells - i) 0 (omega arith))
-
--- a bad line ends the account
-pub cell_bad : {V : Type 0} (form : Form V) (lines : Lines) (i : ℕ) (head : FillingHead) (t : Contents V) (reader : Reader) (rest : Lines) (bad : BadLine)
-    → FilledTo form lines i head t reader rest → i < head.sizes.cells
-    → ((next : V → Lines → Lines) → wanted (3 + i) reader.stage reader.width (read_cell form) next rest ≡ bad_line bad)
-    → at_cells form head.sizes.cells 3 [] lines ≡ bad_line bad
-cell_bad form lines i head t reader rest bad f h w =
-    let next = next_cell form (head.sizes.cells - (i + 1)) (3 + i) (take i t.values) in
-    sym f.gives ∙ one_wanted form head.sizes.cells i (3 + i) (take i t.values) rest h
-    ∙ sym (ap (λ (q : Reader). wanted (3 + i) q.stage q.width (read_cell form) next rest) (among_cells form lines i head t reader rest f h))
-    ∙ w next
 
 none_left : (left : ℕ) → 1 ≤ left → leb left 1 ≡ leb (left - 1) 0
 none_left left h =
@@ -96,18 +84,4 @@ pub cell_filled : {V : Type 0} (form : Form V) (lines : Lines) (i : ℕ) (head h
     → ((next : V → Lines → Lines) → wanted (3 + i) reader.stage reader.width (read_cell form) next rest ≡ next v rest')
     → reader' ≡ moved_on reader.stage reader.left reader.width → head' ≡ one_more_filled head → t' ≡ with_value head.filled v t
     → FilledTo form lines (i + 1) head' t' reader' rest'
-cell_filled {V} form lines i head head' t t' reader reader' rest rest' v f h w r d e =
-    let P : FillingHead → Type 0 = λ q. FilledTo form lines (i + 1) q t' reader' rest' in
-    let Q : Contents V → Type 0 = λ q. FilledTo form lines (i + 1) (one_more_filled head) q reader' rest' in
-    let R : Reader → Type 0 = λ q. FilledTo form lines (i + 1) (one_more_filled head) (with_value head.filled v t) q rest' in
-    subst P (sym d) (subst Q (sym e) (subst R (sym r) (one_filled form lines i head t reader rest rest' v f h w)))
-
--- past the last cell come the calls
-pub all_filled : {V : Type 0} (form : Form V) (lines : Lines) (n : ℕ) (head : FillingHead) (t : Contents V) (reader : Reader) (rest : Lines)
-    → FilledTo form lines n head t reader rest → head.sizes.cells ≡ n → at_cells form n 3 [] lines ≡ at_calls form (3 + n) t.values rest
-all_filled {V} form lines n head t reader rest f e =
-    let none : head.sizes.cells - n ≡ 0 = omega arith in
-    sym (ap (λ (k : ℕ). at_cells form k 3 [] lines) e)
-    ∙ sym f.gives
-    ∙ ap (λ (k : ℕ). at_cells form k (3 + n) (take n t.values) rest) none
-    ∙ ap (λ (vs : List V). at_calls form (3 + n) vs rest) (take_all n t.values (omega (arith, f.tables_fit.values)))
+cell_filled form lines i head head' t t' reader reader' rest rest' v f h w r d e = rw (r, d, e) (one_filled form lines i head t reader rest rest' v f h w)

@@ -1,5 +1,5 @@
 -- The next line of a text, and whether the reader takes it.
-use Rattle.std.proofs.Common.{◌≡◌, ℕ, true, false, eqb, List, [], ◌∷◌, length, Some, None, Ok, Err, Option, Result, sym, refl, ap, ◌∙◌, arith, eqb-true}
+use Rattle.std.proofs.Common.{◌≡◌, ℕ, false, eqb, List, [], ◌∷◌, length, Some, None, Ok, Err, Option, Result, sym, refl, ap, ◌∙◌}
 use Rattle.std.specs.Result.{MatchResult, IsErrAnd}
 use Rattle.std.proofs.lemmas.Result.{err_from_is_err_and}
 use Rattle.terms.specs.declared.refusals.BadField.{BadField}
@@ -19,12 +19,7 @@ use Rattle.schedule.specs.Reading.{let_go}
 
 ---- The text's lines
 
--- a text without bytes has no line
-pub no_lines : (xs : List ℕ) → eqb (length xs) 0 ≡ true → lines_of xs ≡ []
-no_lines [] h = refl
-no_lines (x ∷ xs) h = absurd (omega (arith, eqb-true (length (x ∷ xs)) 0 h))
-
-pub first_line : (xs : List ℕ) → eqb (length xs) 0 ≡ false → lines_of xs ≡ before 10 xs ∷ lines_of (after 10 xs)
+first_line : (xs : List ℕ) → eqb (length xs) 0 ≡ false → lines_of xs ≡ before 10 xs ∷ lines_of (after 10 xs)
 first_line [] h = absurd cc
 first_line (x ∷ xs) h = lines_are x xs
 
@@ -81,16 +76,6 @@ refuses k r q text line rest shape (Err at) bad s l e h =
 
 ---- What a stage that wants a line makes of it
 
-bad_shape_lem : {A : Type 0} (k : ℕ) (o : Option BadField) (read : Result A BadField) (next : A → Lines) (bad : BadLine) → at_line k o ≡ Some bad
-    → goes_on k (fits o read) next ≡ bad_line bad
-bad_shape_lem k None read next bad h = absurd cc
-bad_shape_lem k (Some b) read next bad h = let e : record { line = k; at = b } ≡ bad = cc in ap bad_line e
-
-pub wanted_bad : {A : Type 0} (k : ℕ) (stage : Stage) (width : ℕ) (read : List ℕ → Result A BadField) (next : A → Lines → Lines) (ls : Lines) (bad : BadLine)
-    → bad_next k stage width ls ≡ Some bad → wanted k stage width read next ls ≡ bad_line bad
-wanted_bad k stage width read next [] bad h = let e : record { line = k; at = wrong_letter } ≡ bad = cc in ap bad_line e
-wanted_bad k stage width read next (l ∷ ls) bad h = bad_shape_lem k (bad_shape stage width (shape_of l)) (read l) (λ a. next a ls) bad h
-
 abbrev pub ended : {A : Type 0} → Result A BadLine → (A → Lines) → Lines
 ended (Ok a) next = next a
 ended (Err bad) next = bad_line bad
@@ -129,11 +114,13 @@ opened head ls rest end r a s w =
     ∙ sym (ap (λ (q : Reader). wanted 2 q.stage q.width (λ l. let_go (read_chooser 256 l)) (λ _. next) rest) s)
     ∙ w
 
+calls_bad_of : {V : Type 0} (form : Form V) (k width : ℕ) (xs : Lines) (bad : BadLine) (l : List ℕ) (ls : Lines) → xs ≡ l ∷ ls → bad_next k Calls width xs ≡ Some bad
+    → (values : List V) → at_calls form k values xs ≡ bad_line bad
+calls_bad_of form k width [] bad l ls e h values = absurd cc
+calls_bad_of form k width (x ∷ xs) bad l ls e h values = let same : record { line = k; at = wrong_letter } ≡ bad = cc in ap bad_line same
+
 -- among the calls every line is bad for its first letter
-pub calls_bad : {V : Type 0} (form : Form V) (k : ℕ) (stage : Stage) (width : ℕ) (l : List ℕ) (ls xs : Lines) (bad : BadLine) → stage ≡ Calls → xs ≡ l ∷ ls
-    → bad_next k stage width xs ≡ Some bad → (values : List V) → at_calls form k values xs ≡ bad_line bad
-calls_bad form k stage width l ls xs bad s e h values =
-    let first : ◌≡◌ {A = Option BadLine} (Some (record { line = k; at = wrong_letter })) (Some bad)
-    = sym (ap (λ (q : Stage). bad_next k q width xs) s ∙ ap (bad_next k Calls width) e) ∙ h in
-    let same : record { line = k; at = wrong_letter } ≡ bad = cc in
-    ap (at_calls form k values) e ∙ ap bad_line same
+pub calls_bad : {V : Type 0} (form : Form V) (k : ℕ) (r : Reader) (text : List ℕ) (bad : BadLine) → r.stage ≡ Calls → eqb (length text) 0 ≡ false
+    → bad_next k r.stage r.width (lines_of text) ≡ Some bad → (values : List V) → at_calls form k values (lines_of text) ≡ bad_line bad
+calls_bad form k r text bad s e h =
+    calls_bad_of form k r.width (lines_of text) bad (before 10 text) (lines_of (after 10 text)) (first_line text e) (sym (ap (λ (q : Stage). bad_next k q r.width (lines_of text)) s) ∙ h)

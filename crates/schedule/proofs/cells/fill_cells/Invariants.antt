@@ -7,7 +7,8 @@ use Rattle.schedule.proofs.cells.fill_cells.Given as goal
 
 -- the first cells are filled
 abbrev pub invariant-loop-i : goal.invariant-loop-i
-invariant-loop-i g l =
-    FilledTo g.K.Kind.form (lines_of l.text) l.i (filling_of l.head) (contents_of _ l.t) l.reader (lines_of l.rest)
-    × Same _ l.t l.initial.t
-    × (dimensions_of l.head.sizes ≡ dimensions_of l.initial.head.sizes)
+invariant-loop-i g l = record {
+  filled : FilledTo g.K.Kind.form (lines_of l.text) l.i (filling_of l.head) (contents_of _ l.t) l.reader (lines_of l.rest);
+  same : Same _ l.t l.initial.t;
+  sizes : dimensions_of l.head.sizes ≡ dimensions_of l.initial.head.sizes;
+}
