@@ -79,9 +79,12 @@ one_filled {V} form lines i head t reader rest rest' v f h w =
           ∙ f.gives;
     }
 
-pub cell_filled : {V : Type 0} (form : Form V) (lines : Lines) (i : ℕ) (head head' : FillingHead) (t t' : Contents V) (reader reader' : Reader) (rest rest' : Lines) (v : V)
-    → FilledTo form lines i head t reader rest → i < head.sizes.cells
-    → ((next : V → Lines → Lines) → wanted (3 + i) reader.stage reader.width (read_cell form) next rest ≡ next v rest')
+pub cell_filled : {V : Type 0} (form : Form V) (lines : Lines) (k : ℕ) → 3 ≤ k → (head head' : FillingHead) (t t' : Contents V) (reader reader' : Reader) (rest rest' : Lines) (v : V)
+    → FilledTo form lines (k - 3) head t reader rest → k - 3 < head.sizes.cells
+    → ((next : V → Lines → Lines) → wanted k reader.stage reader.width (read_cell form) next rest ≡ next v rest')
     → reader' ≡ moved_on reader.stage reader.left reader.width → head' ≡ one_more_filled head → t' ≡ with_value head.filled v t
-    → FilledTo form lines (i + 1) head' t' reader' rest'
-cell_filled form lines i head head' t t' reader reader' rest rest' v f h w r d e = rw (r, d, e) (one_filled form lines i head t reader rest rest' v f h w)
+    → FilledTo form lines (k + 1 - 3) head' t' reader' rest'
+cell_filled form lines k a head head' t t' reader reader' rest rest' v f h w r d e =
+    let line : 3 + (k - 3) ≡ k = omega arith in
+    let more : k + 1 - 3 ≡ k - 3 + 1 = omega arith in
+    rw (r, d, e, more) (one_filled form lines (k - 3) head t reader rest rest' v f h (λ next. rw line (w next)))

@@ -38,8 +38,8 @@ pub(crate) fn fill_cells<'a, K: Kind>(
 {
     let cells = head.sizes.cells;
     let mut rest = text;
-    for i in 0..cells {
-        let (value, after) = read_next(reader, 3 + i, rest, |line| read_cell(line))?;
+    for number in 3..3 + cells {
+        let (value, after) = read_next(reader, number, rest, |line| read_cell(line))?;
         fill_next(head, t, value);
         rest = after;
     }

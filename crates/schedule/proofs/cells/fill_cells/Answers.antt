@@ -1,4 +1,4 @@
-use Rattle.std.proofs.Common.{rules, ◌<◌, ap, ◌∙◌, arith}
+use Rattle.std.proofs.Common.{rules, ◌<◌, ◌-◌, ap, ◌∙◌, arith}
 use Rattle.rules.specs.Heads.{Dimensions, FillingHead, filling_of}
 use Rattle.rules.specs.Contents.{contents_of}
 use Rattle.rules.proofs.Lending.{same_then}
@@ -7,15 +7,15 @@ use Rattle.schedule.specs.Accounts.{read_cell}
 use Rattle.schedule.proofs.Filling.{cell_filled}
 use Rattle.schedule.proofs.cells.fill_cells.Goals as goal
 
-pub loop-i-preserved : goal.loop-i-preserved
-loop-i-preserved g c =
-    let cells = ap (λ (d : Dimensions). d.cells) c.loop-i.invariant.sizes in
-    let lt : c.loop-i.i < c.loop-i.head.sizes.cells = omega arith in
+pub loop-number-preserved : goal.loop-number-preserved
+loop-number-preserved g c =
+    let cells = ap (λ (d : Dimensions). d.cells) c.loop-number.invariant.sizes in
+    let lt : c.loop-number.number - 3 < c.loop-number.head.sizes.cells = omega arith in
     let line = c.in_ok-value.ensures.wanted (read_cell g.K.Kind.form) (λ l r h. search rules) in
     record {
-      filled = cell_filled g.K.Kind.form (lines_of c.args.text.now) c.loop-i.i (filling_of c.loop-i.head) (filling_of c.fill_next.new.head) (contents_of _ c.loop-i.t) (contents_of _ c.fill_next.new.t)
-          c.loop-i.reader c.read_next.new.reader (lines_of c.loop-i.rest.now) (lines_of c.in_ok-value.after.now) c.in_ok-value.value
-          c.loop-i.invariant.filled lt line c.in_ok-value.ensures.moved c.fill_next.ensures.filled c.fill_next.ensures.contents;
+      filled = cell_filled g.K.Kind.form (lines_of c.args.text.now) c.loop-number.number (omega arith) (filling_of c.loop-number.head) (filling_of c.fill_next.new.head) (contents_of _ c.loop-number.t) (contents_of _ c.fill_next.new.t)
+          c.loop-number.reader c.read_next.new.reader (lines_of c.loop-number.rest.now) (lines_of c.in_ok-value.after.now) c.in_ok-value.value
+          c.loop-number.invariant.filled lt line c.in_ok-value.ensures.moved c.fill_next.ensures.filled c.fill_next.ensures.contents;
       same = search rules;
       sizes = search rules;
     }
