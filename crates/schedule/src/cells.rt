@@ -21,7 +21,7 @@ fn fill_next<K: Kind>(head: &mut Filling, t: &mut Tables<'_, K>, value: K)
     ensures filled { filling_of head.new ≡ one_more_filled (filling_of head.old) }
     ensures contents { contents_of K t.new ≡ with_value head.old.filled value (contents_of K t.old) }
 {
-    let _ = fill(head, t, value);
+    fill(head, t, value).unwrap();
 }
 
 // Fills all cells from the lines of a text, and answers the text after them.
@@ -36,9 +36,8 @@ pub(crate) fn fill_cells<'a, K: Kind>(
     ensures sizes { dimensions_of head.new.sizes ≡ dimensions_of head.old.sizes }
     ensures read { elim result [ Ok rest ↦ FilledTo K.form (lines_of text.now) head.old.sizes.cells (filling_of head.new) (contents_of K t.new) reader.new (lines_of rest.now) | Err bad ↦ at_cells K.form head.old.sizes.cells 3 [] (lines_of text.now) ≡ bad_line bad ] }
 {
-    let cells = head.sizes.cells;
     let mut rest = text;
-    for number in 3..3 + cells {
+    for number in 3..3 + head.sizes.cells {
         let (value, after) = read_next(reader, number, rest, |line| read_cell(line))?;
         fill_next(head, t, value);
         rest = after;

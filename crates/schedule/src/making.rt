@@ -24,10 +24,7 @@ fn start_filled<K: Kind>(head: Filling, t: &mut Tables<'_, K>) -> Started
     ensures head { started_of result ≡ fresh_head (dimensions_of head.sizes) }
     ensures contents { contents_of K t.new ≡ fresh_contents {V = K} (dimensions_of head.sizes) (contents_of K t.old) }
 {
-    match start(head, t) {
-        Ok(started) => started,
-        Err(_) => unreachable(),
-    }
+    start(head, t).unwrap()
 }
 
 // Reads the lines of calls, from line `number` on. No call is built yet, so that the reader takes no line here.
