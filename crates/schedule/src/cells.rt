@@ -14,16 +14,6 @@ use stages::stage::Reader;
 use terms::refusals::BadLine;
 use values::kinds::Kind;
 
-// Fills the next cell of a register that has one and whose tables fit, so that nothing is refused.
-fn fill_next<K: Kind>(head: &mut Filling, t: &mut Tables<'_, K>, value: K)
-    requires { (Fits {V = K} (dimensions_of head.old.sizes) (contents_of K t.old)) × (head.old.filled < head.old.sizes.cells) }
-    ensures same { Same K t.new t.old }
-    ensures filled { filling_of head.new ≡ one_more_filled (filling_of head.old) }
-    ensures contents { contents_of K t.new ≡ with_value head.old.filled value (contents_of K t.old) }
-{
-    fill(head, t, value).unwrap();
-}
-
 // Fills all cells from the lines of a text, and answers the text after them.
 pub(crate) fn fill_cells<'a, K: Kind>(
     head: &mut Filling,
@@ -39,7 +29,7 @@ pub(crate) fn fill_cells<'a, K: Kind>(
     let mut rest = text;
     for number in 3..3 + head.sizes.cells {
         let (value, after) = read_next(reader, number, rest, |line| read_cell(line))?;
-        fill_next(head, t, value);
+        fill(head, t, value).unwrap();
         rest = after;
     }
     Ok(rest)

@@ -17,16 +17,6 @@ use stages::stage::Reader;
 use terms::refusals::BadLine;
 use values::kinds::Kind;
 
-// Starts a register whose cells are all filled and whose tables fit, so that nothing is refused.
-fn start_filled<K: Kind>(head: Filling, t: &mut Tables<'_, K>) -> Started
-    requires { (Fits {V = K} (dimensions_of head.sizes) (contents_of K t.old)) × (head.filled ≡ head.sizes.cells) }
-    ensures same { Same K t.new t.old }
-    ensures head { started_of result ≡ fresh_head (dimensions_of head.sizes) }
-    ensures contents { contents_of K t.new ≡ fresh_contents {V = K} (dimensions_of head.sizes) (contents_of K t.old) }
-{
-    start(head, t).unwrap()
-}
-
 // Reads the lines of calls, from line `number` on. No call is built yet, so that the reader takes no line here.
 fn read_calls<K: Kind>(reader: &mut Reader, number: usize, text: &[u8]) -> Result<(), BadLine>
     requires { reader.old.stage ≡ Calls }
@@ -52,7 +42,7 @@ pub(crate) fn make_register<K: Kind>(
 {
     let mut head = Filling::new(sizes);
     let rest = fill_cells(&mut head, t, reader, text)?;
-    let started = start_filled(head, t);
+    let started = start(head, t).unwrap();
     read_calls::<K>(reader, 3 + sizes.cells, rest)?;
     Ok(started)
 }
