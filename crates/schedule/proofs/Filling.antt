@@ -1,11 +1,13 @@
 -- One cell more.
-use Rattle.std.proofs.Common.{◌≡◌, ℕ, suc, ◌+◌, ◌-◌, ◌<◌, ◌≤◌, Bool, cond, leb, List, [], ◌∷◌, ◌++◌, length, take, set, sym, ap, ◌∙◌, ⊎_elim, arith}
+use Rattle.std.proofs.Common.{◌≡◌, ℕ, suc, ◌+◌, ◌-◌, ◌<◌, ◌≤◌, Bool, cond, leb, List, [], ◌∷◌, ◌++◌, length, take, Result, sym, ap, ◌∙◌, ⊎_elim, arith}
 use Rattle.std.proofs.lemmas.List.{take_more_set, length-set}
 use Rattle.std.proofs.lemmas.Bool.{le-leb, lt-leb, cases_lt}
+use Rattle.terms.specs.declared.refusals.Refusal.{Refusal}
 use Rattle.values.specs.Forms.{Form}
 use Rattle.rules.specs.Heads.{Dimensions, FillingHead}
 use Rattle.rules.specs.Contents.{Contents, Fits}
-use Rattle.rules.specs.Making.{one_more_filled, with_value}
+use Rattle.rules.specs.Making.{FillOutcome, fill_outcome, one_more_filled, with_value}
+use Rattle.rules.proofs.Accepting.{fill_accepts}
 use Rattle.stages.specs.declared.stage.Reader.{Reader}
 use Rattle.stages.specs.declared.stage.Stage.TheVariants.{Cells, Calls}
 use Rattle.stages.specs.Stages.{moved_on}
@@ -63,28 +65,27 @@ one_filled {V} form lines i head t reader rest rest' v f h w =
     let next = next_cell form (head.sizes.cells - (i + 1)) (3 + i) (take i t.values) in
     let stands = among_cells form lines i head t reader rest f h in
     let line : 3 + (i + 1) ≡ 3 + i + 1 = omega arith in
-    let len : i < length t.values = omega (arith, f.tables_fit.values) in
+    let more = take_more_set t.values i v (omega (arith, f.tables_fit.values)) in
     record {
       counted = ap (λ (k : ℕ). k + 1) f.counted;
       within = omega arith;
       tables_fit = still_fit head.sizes head.filled v t f.tables_fit;
       stands = ap (λ (q : Reader). moved_on q.stage q.left q.width) stands ∙ moved_on_lem head.sizes.cells i form.width h;
       gives =
-          ap (λ (k : ℕ). at_cells form (head.sizes.cells - (i + 1)) k (take (i + 1) (set t.values head.filled v)) rest') line
-          ∙ ap (λ (k : ℕ). at_cells form (head.sizes.cells - (i + 1)) (3 + i + 1) (take (i + 1) (set t.values k v)) rest') f.counted
-          ∙ ap (λ (vs : List V). at_cells form (head.sizes.cells - (i + 1)) (3 + i + 1) vs rest') (take_more_set t.values i v len)
-          ∙ sym (w next)
+          rw (line, f.counted, more)
+          (sym (w next)
           ∙ ap (λ (q : Reader). wanted (3 + i) q.stage q.width (read_cell form) next rest) stands
           ∙ sym (one_wanted form head.sizes.cells i (3 + i) (take i t.values) rest h)
-          ∙ f.gives;
+          ∙ f.gives);
     }
 
-pub cell_filled : {V : Type 0} (form : Form V) (lines : Lines) (k : ℕ) → 3 ≤ k → (head head' : FillingHead) (t t' : Contents V) (reader reader' : Reader) (rest rest' : Lines) (v : V)
-    → FilledTo form lines (k - 3) head t reader rest → k - 3 < head.sizes.cells
+pub cell_filled : {V : Type 0} (form : Form V) (lines : Lines) (k : ℕ) → 3 ≤ k → (head head' : FillingHead) (t t' : Contents V) (answer : Result (Unit {0}) Refusal) (reader reader' : Reader)
+    (rest rest' : Lines) (v : V) → FilledTo form lines (k - 3) head t reader rest → k - 3 < head.sizes.cells
     → ((next : V → Lines → Lines) → wanted k reader.stage reader.width (read_cell form) next rest ≡ next v rest')
-    → reader' ≡ moved_on reader.stage reader.left reader.width → head' ≡ one_more_filled head → t' ≡ with_value head.filled v t
+    → reader' ≡ moved_on reader.stage reader.left reader.width → ◌≡◌ {A = FillOutcome V} (record { answer = answer; head = head'; contents = t' }) (fill_outcome head t v)
     → FilledTo form lines (k + 1 - 3) head' t' reader' rest'
-cell_filled form lines k a head head' t t' reader reader' rest rest' v f h w r d e =
+cell_filled {V} form lines k a head head' t t' answer reader reader' rest rest' v f h w r o =
+    let done = o ∙ fill_accepts head t v f.tables_fit (omega (arith, f.counted)) in
     let line : 3 + (k - 3) ≡ k = omega arith in
     let more : k + 1 - 3 ≡ k - 3 + 1 = omega arith in
-    rw (r, d, e, more) (one_filled form lines (k - 3) head t reader rest rest' v f h (λ next. rw line (w next)))
+    rw (r, ap (λ (q : FillOutcome V). q.head) done, ap (λ (q : FillOutcome V). q.contents) done, more) (one_filled form lines (k - 3) head t reader rest rest' v f h (λ next. rw line (w next)))

@@ -1,18 +1,27 @@
-ghost use Rattle.std.specs.Prelude.{◌≡◌, ℕ, ◌<◌, [], Ok, Err};
+ghost use Rattle.std.specs.Prelude.{◌≡◌, [], Ok, Err};
 ghost use Rattle.text.specs.Split.{lines_of};
-ghost use Rattle.rules.specs.Contents.{contents_of, Fits, Same};
+ghost use Rattle.rules.specs.Contents.{contents_of, Same};
 ghost use Rattle.rules.specs.Heads.{dimensions_of, filling_of};
-ghost use Rattle.rules.specs.Making.{one_more_filled, with_value};
-ghost use Rattle.schedule.specs.Accounts.{at_cells, bad_line};
+ghost use Rattle.schedule.specs.Accounts.{at_cells, bad_line, read_cell};
 ghost use Rattle.schedule.specs.Filling.{FilledTo};
 
-use crate::reading::{read_cell, read_next};
+use crate::reading::read_next;
 use register::making::fill;
 use rules::head::Filling;
 use rules::tables::Tables;
 use stages::stage::Reader;
-use terms::refusals::BadLine;
+use terms::refusals::{BadField, BadLine};
+use text::read_field;
 use values::kinds::Kind;
+use values::reading::read_value;
+
+// Reads a cell's value, which stands behind the line's letter.
+fn read_cell<K: Kind>(line: &[u8]) -> Result<K, BadField>
+    ensures { result ≡ read_cell K.form line.now }
+{
+    let (_, fields) = read_field(line);
+    read_value(fields, 2)
+}
 
 // Fills all cells from the lines of a text, and answers the text after them.
 pub(crate) fn fill_cells<'a, K: Kind>(
@@ -28,6 +37,7 @@ pub(crate) fn fill_cells<'a, K: Kind>(
 {
     let mut rest = text;
     for number in 3..3 + head.sizes.cells {
+        // A closure, since the check does not take a generic function by its name here.
         let (value, after) = read_next(reader, number, rest, |line| read_cell(line))?;
         fill(head, t, value).unwrap();
         rest = after;

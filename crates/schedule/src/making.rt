@@ -1,8 +1,7 @@
 ghost use Rattle.std.specs.Prelude.{◌≡◌, List, [], map, Ok, Err};
 ghost use Rattle.text.specs.Split.{lines_of};
 ghost use Rattle.rules.specs.Contents.{contents_of, Fits, Same};
-ghost use Rattle.rules.specs.Heads.{dimensions_of, started_of};
-ghost use Rattle.rules.specs.Making.{fresh_head, fresh_contents};
+ghost use Rattle.rules.specs.Heads.{dimensions_of};
 ghost use Rattle.output.specs.Lines.{value_line};
 ghost use Rattle.stages.specs.declared.stage.Stage.TheVariants.{Cells, Calls};
 ghost use Rattle.schedule.specs.Accounts.{at_cells, at_calls, bad_line};

@@ -4,7 +4,7 @@ ghost use Rattle.text.specs.Split.{lines_of};
 ghost use Rattle.stages.specs.declared.stage.Stage.TheVariants.{Cells};
 ghost use Rattle.stages.specs.Stages.{bad_shape, shape_of, moved_on};
 ghost use Rattle.stages.specs.ChooserLines.{read_chooser};
-ghost use Rattle.schedule.specs.Accounts.{bad_next, bad_line, read_cell, at_head, of_kind};
+ghost use Rattle.schedule.specs.Accounts.{bad_next, bad_line, at_head, of_kind};
 ghost use Rattle.schedule.specs.Ranges.{InRange};
 ghost use Rattle.schedule.specs.Reading.{ReadsWanted, let_go};
 
@@ -12,9 +12,7 @@ use stages::chooser_line::read_chooser;
 use stages::head_line::{HeadLine, read_head};
 use stages::stage::{Reader, Stage, shape_of};
 use terms::refusals::{BadField, BadLine, Cause};
-use text::{read_field, read_line};
-use values::kinds::Kind;
-use values::reading::read_value;
+use text::read_line;
 
 // The next line of a text, which has this number, and the text after it; refused where the line is missing, or where the
 // reader does not take it.
@@ -50,14 +48,6 @@ pub(crate) fn read_next<'a, T, F: FnOnce(&[u8]) -> Result<T, BadField>>(
     let (line, rest) = next_line(reader, number, text)?;
     let value = read(line).map_err(|at| at.in_line(number))?;
     Ok((value, rest))
-}
-
-// Reads a cell's value, which stands behind the line's letter.
-pub(crate) fn read_cell<K: Kind>(line: &[u8]) -> Result<K, BadField>
-    ensures { result ≡ read_cell K.form line.now }
-{
-    let (_, fields) = read_field(line);
-    read_value(fields, 2)
 }
 
 // What the first two lines say, with the reader at the first cell, and the text after them.

@@ -1,7 +1,6 @@
 use Rattle.std.proofs.Common.{rules, ◌<◌, ◌-◌, ap, ◌∙◌, arith}
 use Rattle.rules.specs.Heads.{Dimensions, FillingHead, filling_of}
 use Rattle.rules.specs.Contents.{contents_of}
-use Rattle.rules.proofs.Accepting.{fill_accepts}
 use Rattle.text.specs.Split.{lines_of}
 use Rattle.schedule.specs.Accounts.{read_cell}
 use Rattle.schedule.proofs.Filling.{cell_filled}
@@ -12,11 +11,10 @@ loop-number-preserved g c =
     let cells = ap (λ (d : Dimensions). d.cells) c.loop-number.invariant.sizes in
     let lt : c.loop-number.number - 3 < c.loop-number.head.sizes.cells = omega arith in
     let line = c.in_ok-value.ensures.wanted (read_cell g.K.Kind.form) (λ l r h. search rules) in
-    let done = c.fill.ensures.outcome ∙ fill_accepts (filling_of c.loop-number.head) (contents_of _ c.loop-number.t) c.in_ok-value.value c.loop-number.invariant.filled.tables_fit (omega arith) in
     record {
-      filled = cell_filled g.K.Kind.form (lines_of c.args.text.now) c.loop-number.number (omega arith) (filling_of c.loop-number.head) (filling_of c.fill.new.head) (contents_of _ c.loop-number.t) (contents_of _ c.fill.new.t)
+      filled = cell_filled g.K.Kind.form (lines_of c.args.text.now) c.loop-number.number (omega arith) (filling_of c.loop-number.head) (filling_of c.fill.new.head) (contents_of _ c.loop-number.t) (contents_of _ c.fill.new.t) c.fill.result
           c.loop-number.reader c.read_next.new.reader (lines_of c.loop-number.rest.now) (lines_of c.in_ok-value.after.now) c.in_ok-value.value
-          c.loop-number.invariant.filled lt line c.in_ok-value.ensures.moved (ap (λ o. o.head) done) (ap (λ o. o.contents) done);
+          c.loop-number.invariant.filled lt line c.in_ok-value.ensures.moved c.fill.ensures.outcome;
       same = search rules;
       sizes = search rules;
     }
