@@ -1,13 +1,12 @@
 -- One number more of a script that is being read.
-use Rattle.std.proofs.Common.{◌≡◌, ℕ, suc, ◌+◌, ◌-◌, ◌<◌, ◌≤◌, true, ◌&&◌, leb, List, [], ◌∷◌, ◌++◌, length, take, set, Some, None, Ok, Err, Option, Result, sym, refl, ap, ◌∙◌, arith}
-use Rattle.std.proofs.lemmas.List.{take_more_set, take_all, take-append-le}
-use Rattle.std.proofs.lemmas.Bool.{and_from, le-leb, cond-true}
+use Rattle.std.proofs.Common.{◌≡◌, ℕ, suc, ◌+◌, ◌-◌, ◌<◌, List, [], ◌∷◌, ◌++◌, length, take, set, Some, None, Ok, Err, Option, Result, sym, refl, ap, ◌∙◌, arith}
+use Rattle.std.proofs.lemmas.List.{take_more_set}
 use Rattle.terms.specs.declared.refusals.BadField.{BadField}
 use Rattle.text.specs.Numbers.{number_in}
-use Rattle.text.specs.Split.{before, after, field_count}
+use Rattle.text.specs.Split.{before, after}
 use Rattle.values.specs.Forms.{is_number}
 use Rattle.stages.specs.HeadLines.{and_then}
-use Rattle.stages.specs.ChooserLines.{numbers_from, numbers_in}
+use Rattle.stages.specs.ChooserLines.{numbers_from}
 
 then_number : {A : Type 0} (at : ℕ) (o : Option ℕ) (next : ℕ → Result A BadField) → is_number at o next ≡ and_then (is_number at o (λ n. Ok n)) next
 then_number at None next = refl
@@ -41,17 +40,3 @@ one_more numbers count i field rest left r x h l f g e b =
     ∙ ap (numbers_from (take i numbers ++ (x ∷ [])) (count - (i + 1)) (3 + (i + 1))) g
     ∙ sym (next_number (take i numbers) count i field rest r h f e
     ∙ ap (λ (q : Result ℕ BadField). and_then q (λ y. numbers_from (take i numbers ++ (y ∷ [])) (count - (i + 1)) (3 + (i + 1)) (after 44 rest))) b)
-
--- when as many are stored as the list has places, they are the script
-pub all_read : (numbers others : List ℕ) (count i : ℕ) (rest : List ℕ) → count ≤ i → length numbers ≡ count
-    → numbers_from (take i numbers) (count - i) (3 + i) rest ≡ Ok (take count (numbers ++ others))
-all_read numbers others count i rest h l =
-    let none : count - i ≡ 0 = omega arith in
-    ap (λ (k : ℕ). numbers_from (take i numbers) k (3 + i) rest) none
-    ∙ ap (λ (q : List ℕ). Ok q) (take_all i numbers (omega arith) ∙ sym (take-append-le count numbers others (omega arith) ∙ take_all count numbers (omega arith)))
-
--- a list that has room for a script's numbers
-pub has_room : (room count : ℕ) (line : List ℕ) → count ≡ field_count line → count ≤ 256 → count ≤ room → numbers_in room line ≡ numbers_from [] count 3 line
-has_room room count line e a b =
-    let t : (leb (field_count line) 256 && leb (field_count line) room) ≡ true = and_from _ _ (le-leb (field_count line) 256 (omega (arith, e))) (le-leb (field_count line) room (omega (arith, e))) in
-    cond-true _ _ _ t ∙ ap (λ (k : ℕ). numbers_from [] k 3 line) (sym e)

@@ -1,5 +1,5 @@
-use Rattle.std.proofs.Common.{rules, ◌<◌, ◌-◌, ap, ◌∙◌, arith}
-use Rattle.rules.specs.Heads.{Dimensions, FillingHead, filling_of}
+use Rattle.std.proofs.Common.{rules, ◌<◌, ◌-◌, ap, arith}
+use Rattle.rules.specs.Heads.{Dimensions, filling_of}
 use Rattle.rules.specs.Contents.{contents_of}
 use Rattle.text.specs.Split.{lines_of}
 use Rattle.schedule.specs.Accounts.{read_cell}

@@ -1,6 +1,7 @@
-use Rattle.std.proofs.Common.{◌≡◌, ◌<◌, ◌≤◌, length, take, drop, sym, ◌∙◌, arith, length-take}
+use Rattle.std.proofs.Common.{◌<◌, take, ◌∙◌, arith, length-take}
 use Rattle.std.proofs.lemmas.Result.{err_from_is_err_and}
-use Rattle.stages.proofs.Scripts.{bad_number, one_more, all_read, has_room}
+use Rattle.std.proofs.lemmas.Grind.{common_steps}
+use Rattle.stages.proofs.Scripts.{bad_number, one_more}
 use Rattle.stages.proofs.chooser_line.read_script.Goals as goal
 
 pub returns-in_err-slot-clause-read : goal.returns-in_err-slot-clause-read
@@ -9,8 +10,7 @@ returns-in_err-slot-clause-read c =
     let lt : c.loop-i.i < c.count_fields-count.result = omega (arith, length-take c.count_fields-count.result c.args.numbers.now) in
     let bad = bad_number (take c.loop-i.i c.loop-i.slot-items) c.count_fields-count.result c.loop-i.i c.read_field.result.0.now c.loop-i.rest.now c.read_number.result c.in_err-slot.field-0.0
     lt c.read_field.ensures.field c.read_number.ensures c.in_err-slot.was in
-    let room = has_room (length c.args.numbers.now) c.count_fields-count.result c.args.line.now c.count_fields-count.ensures (omega arith) (omega arith) in
-    rw (p.1, p.2) (sym (room ∙ sym c.loop-i.invariant ∙ bad))
+    rw (p.1, p.2) (grind (arith, common_steps, bad))
 
 pub loop-i-preserved : goal.loop-i-preserved
 loop-i-preserved c =
@@ -18,11 +18,3 @@ loop-i-preserved c =
     one_more c.loop-i.slot-items c.count_fields-count.result c.loop-i.i c.read_field.result.0.now c.loop-i.rest.now c.read_field.result.1.now c.read_number.result c.in_ok-slot.field-0
     lt (omega arith) c.read_field.ensures.field c.read_field.ensures.rest c.read_number.ensures c.in_ok-slot.was
     ∙ c.loop-i.invariant
-
-pub returns-clause-read : goal.returns-clause-read
-returns-clause-read c =
-    let len : length c.loop-i.slot-items ≡ c.count_fields-count.result = omega (arith, length-take c.count_fields-count.result c.args.numbers.now) in
-    let le : c.count_fields-count.result ≤ c.loop-i.i = omega (arith, length-take c.count_fields-count.result c.args.numbers.now) in
-    let all = all_read c.loop-i.slot-items (drop c.count_fields-count.result c.args.numbers.now) c.count_fields-count.result c.loop-i.i c.loop-i.rest.now le len in
-    let room = has_room (length c.args.numbers.now) c.count_fields-count.result c.args.line.now c.count_fields-count.ensures (omega arith) (omega arith) in
-    sym all ∙ c.loop-i.invariant ∙ sym room
