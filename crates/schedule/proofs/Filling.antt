@@ -1,7 +1,8 @@
 -- One cell more.
 use Rattle.std.proofs.Common.{◌≡◌, ℕ, suc, ◌+◌, ◌-◌, ◌<◌, ◌≤◌, Bool, cond, leb, List, [], ◌∷◌, ◌++◌, take, Result, sym, ap, ◌∙◌, ⊎_elim, arith}
-use Rattle.std.proofs.lemmas.List.{take_more_set, length-set}
+use Rattle.std.proofs.lemmas.List.{take_more_set, take_all, length-set}
 use Rattle.std.proofs.lemmas.Bool.{le-leb, lt-leb, cases_lt}
+use Rattle.terms.specs.declared.refusals.BadLine.{BadLine}
 use Rattle.terms.specs.declared.refusals.Refusal.{Refusal}
 use Rattle.values.specs.Forms.{Form}
 use Rattle.rules.specs.Heads.{Dimensions, FillingHead}
@@ -11,7 +12,7 @@ use Rattle.rules.proofs.Accepting.{fill_accepts}
 use Rattle.stages.specs.declared.stage.Reader.{Reader}
 use Rattle.stages.specs.declared.stage.Stage.TheVariants.{Cells, Calls}
 use Rattle.stages.specs.Stages.{moved_on}
-use Rattle.schedule.specs.Accounts.{Lines, wanted, read_cell, at_cells}
+use Rattle.schedule.specs.Accounts.{Lines, wanted, read_cell, at_cells, at_calls, bad_line}
 use Rattle.schedule.specs.Filling.{FilledTo}
 
 -- what the next cell's line leads to
@@ -89,3 +90,30 @@ cell_filled {V} form lines k a head head' t t' answer reader reader' rest rest' 
     let line : 3 + (k - 3) ≡ k = omega arith in
     let more : k + 1 - 3 ≡ k - 3 + 1 = omega arith in
     rw (r, ap (λ (q : FillOutcome V). q.head) done, ap (λ (q : FillOutcome V). q.contents) done, more) (one_filled form lines (k - 3) head t reader rest rest' v f h (λ next. rw line (w next)))
+
+-- a bad line ends the account
+pub cell_bad : {V : Type 0} (form : Form V) (lines : Lines) (k n : ℕ) → 3 ≤ k → (head : FillingHead) (t : Contents V) (reader : Reader) (rest : Lines) (bad : BadLine)
+    → FilledTo form lines (k - 3) head t reader rest → k - 3 < head.sizes.cells → head.sizes.cells ≡ n
+    → ((next : V → Lines → Lines) → wanted k reader.stage reader.width (read_cell form) next rest ≡ bad_line bad) → at_cells form n 3 [] lines ≡ bad_line bad
+cell_bad form lines k n a head t reader rest bad f h e w =
+    let line : 3 + (k - 3) ≡ k = omega arith in
+    let next = next_cell form (head.sizes.cells - (k - 3 + 1)) (3 + (k - 3)) (take (k - 3) t.values) in
+    sym (ap (λ (m : ℕ). at_cells form m 3 [] lines) e)
+    ∙ sym f.gives
+    ∙ one_wanted form head.sizes.cells (k - 3) (3 + (k - 3)) (take (k - 3) t.values) rest h
+    ∙ sym (ap (λ (q : Reader). wanted (3 + (k - 3)) q.stage q.width (read_cell form) next rest) (among_cells form lines (k - 3) head t reader rest f h))
+    ∙ ap (λ (m : ℕ). wanted m reader.stage reader.width (read_cell form) next rest) line
+    ∙ w next
+
+-- past the last cell come the calls
+pub all_filled : {V : Type 0} (form : Form V) (lines : Lines) (n m : ℕ) (head : FillingHead) (t : Contents V) (reader : Reader) (rest end : Lines)
+    → FilledTo form lines n head t reader rest → head.sizes.cells ≡ n → n ≡ m → at_calls form (3 + m) t.values rest ≡ end → at_cells form m 3 [] lines ≡ end
+all_filled {V} form lines n m head t reader rest end f e d c =
+    let cells : head.sizes.cells ≡ m = e ∙ d in
+    let none : head.sizes.cells - n ≡ 0 = omega arith in
+    sym (ap (λ (k : ℕ). at_cells form k 3 [] lines) cells)
+    ∙ sym f.gives
+    ∙ ap (λ (k : ℕ). at_cells form k (3 + n) (take n t.values) rest) none
+    ∙ ap (λ (vs : List V). at_calls form (3 + n) vs rest) (take_all n t.values (omega (arith, f.tables_fit.values)))
+    ∙ ap (λ (k : ℕ). at_calls form (3 + k) t.values rest) d
+    ∙ c

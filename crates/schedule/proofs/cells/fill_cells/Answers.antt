@@ -1,10 +1,20 @@
 use Rattle.std.proofs.Common.{rules, ◌<◌, ◌-◌, ap, arith}
+use Rattle.std.proofs.lemmas.Result.{err_from_is_err_and}
 use Rattle.rules.specs.Heads.{Dimensions, filling_of}
 use Rattle.rules.specs.Contents.{contents_of}
 use Rattle.text.specs.Split.{lines_of}
 use Rattle.schedule.specs.Accounts.{read_cell}
-use Rattle.schedule.proofs.Filling.{cell_filled}
+use Rattle.schedule.proofs.Filling.{cell_bad, cell_filled}
 use Rattle.schedule.proofs.cells.fill_cells.Goals as goal
+
+pub returns-in_err-value-clause-read : goal.returns-in_err-value-clause-read
+returns-in_err-value-clause-read g c =
+    let p = err_from_is_err_and c.from_residual.result c.from_residual.ensures.1 in
+    let cells = ap (λ (d : Dimensions). d.cells) c.loop-number.invariant.sizes in
+    let lt : c.loop-number.number - 3 < c.loop-number.head.sizes.cells = omega arith in
+    let line = c.in_err-value.ensures.wanted (read_cell g.K.Kind.form) (λ l r h. search rules) in
+    rw (p.1, p.2) (cell_bad g.K.Kind.form (lines_of c.args.text.now) c.loop-number.number _ (omega arith) (filling_of c.loop-number.head) (contents_of _ c.loop-number.t) c.loop-number.reader
+    (lines_of c.loop-number.rest.now) c.in_err-value.field-0.0 c.loop-number.invariant.filled lt cells line)
 
 pub loop-number-preserved : goal.loop-number-preserved
 loop-number-preserved g c =
