@@ -11,7 +11,7 @@ use Rattle.schedule.specs.Ranges.{InRange}
 
 then_ok : {A B : Type 0} (r : Result A BadField) (next : A → Result B BadField) (b : B) → and_then r next ≡ Ok b → (a : A) × (r ≡ Ok a) × (next a ≡ Ok b)
 then_ok (Ok a) next b h = (a, refl, h)
-then_ok (Err bad) next b h = absurd (let z : ◌≡◌ {A = ℕ} 0 1 = cc in omega arith)
+then_ok (Err bad) next b h = absurd cc
 
 in_cond : (at n m most : ℕ) (b : Bool) → (leb 1 n && leb n most) ≡ b → cond {A = Result ℕ BadField} b (Ok n) (Err (record { field = at; cause = OutOfRange })) ≡ Ok m → (1 ≤ m) × (m ≤ most)
 in_cond at n m most true t h =
@@ -20,10 +20,10 @@ in_cond at n m most true t h =
     let a = leb-true 1 n p.0 in
     let b = leb-true n most p.1 in
     (omega arith, omega arith)
-in_cond at n m most false t h = absurd (let z : ◌≡◌ {A = ℕ} 0 1 = cc in omega arith)
+in_cond at n m most false t h = absurd cc
 
 in_number : (at m most : ℕ) (o : Option ℕ) → is_number at o (λ n. cond {A = Result ℕ BadField} (leb 1 n && leb n most) (Ok n) (Err (record { field = at; cause = OutOfRange }))) ≡ Ok m → (1 ≤ m) × (m ≤ most)
-in_number at m most None h = absurd (let z : ◌≡◌ {A = ℕ} 0 1 = cc in omega arith)
+in_number at m most None h = absurd cc
 in_number at m most (Some n) h = in_cond at n m most (leb 1 n && leb n most) refl h
 
 in_size : (at most : ℕ) (bs : List ℕ) (m : ℕ) → size_in at most bs ≡ Ok m → (1 ≤ m) × (m ≤ most)
@@ -42,4 +42,4 @@ head_in_range line h e =
     let en : n.0 ≡ h.cells = ap (λ (q : HeadLine). q.cells) made in
     let em : m.0 ≡ h.crews = ap (λ (q : HeadLine). q.crews) made in
     let eb : b.0 ≡ h.entries = ap (λ (q : HeadLine). q.entries) made in
-    record { some_cells = omega (arith, rn.0, en); cells_fit = omega (arith, rn.1, en); some_crews = omega (arith, rm.0, em); crews_fit = omega (arith, rm.1, em); some_entries = omega (arith, rb.0, eb); entries_fit = omega (arith, rb.1, eb) }
+    record { some_cells = omega arith; cells_fit = omega arith; some_crews = omega arith; crews_fit = omega arith; some_entries = omega arith; entries_fit = omega arith }

@@ -1,74 +1,126 @@
 -- The next line of a text, and whether the reader takes it.
-use Rattle.std.proofs.Common.{◌≡◌, ℕ, true, false, eqb, List, [], ◌∷◌, length, Some, None, Ok, Err, Option, Result, sym, refl, ap, ◌∙◌, arith, eqb-true}
+use Rattle.std.proofs.Common.{◌≡◌, ℕ, false, eqb, List, [], ◌∷◌, length, Some, None, Ok, Err, Option, Result, sym, refl, ap, ◌∙◌}
+use Rattle.std.specs.Result.{MatchResult, IsErrAnd}
+use Rattle.std.proofs.lemmas.Result.{err_from_is_err_and}
 use Rattle.terms.specs.declared.refusals.BadField.{BadField}
 use Rattle.terms.specs.declared.refusals.BadLine.{BadLine}
 use Rattle.text.specs.Split.{before, after, lines_of}
 use Rattle.text.proofs.Splitting.{lines_are}
 use Rattle.values.specs.Forms.{Form}
 use Rattle.stages.specs.declared.stage.Stage.{Stage}
-use Rattle.stages.specs.declared.stage.Stage.TheVariants.{Calls}
+use Rattle.stages.specs.declared.stage.Stage.TheVariants.{Chooser, Calls}
+use Rattle.stages.specs.declared.stage.Shape.{Shape}
 use Rattle.stages.specs.declared.stage.Reader.{Reader}
+use Rattle.stages.specs.declared.head_line.HeadLine.{HeadLine}
+use Rattle.stages.specs.ChooserLines.{read_chooser}
 use Rattle.stages.specs.Stages.{bad_shape, shape_of, moved_on, taken_or}
-use Rattle.schedule.specs.Accounts.{Lines, bad_next, at_line, wrong_letter, bad_line, fits, goes_on, wanted, at_calls}
+use Rattle.schedule.specs.Accounts.{Lines, bad_next, at_line, wrong_letter, bad_line, fits, goes_on, wanted, at_calls, at_chooser, at_head, of_kind}
+use Rattle.schedule.specs.Reading.{let_go}
 
--- a text without bytes has no line
-pub no_lines : (xs : List ℕ) → eqb (length xs) 0 ≡ true → lines_of xs ≡ []
-no_lines [] h = refl
-no_lines (x ∷ xs) h = absurd (omega (arith, eqb-true (length (x ∷ xs)) 0 h))
+---- The text's lines
 
--- any other begins with what stands before its first line feed
-pub first_line : (xs : List ℕ) → eqb (length xs) 0 ≡ false → lines_of xs ≡ before 10 xs ∷ lines_of (after 10 xs)
-first_line [] h = absurd (let z : ◌≡◌ {A = ℕ} 0 1 = cc in omega arith)
+first_line : (xs : List ℕ) → eqb (length xs) 0 ≡ false → lines_of xs ≡ before 10 xs ∷ lines_of (after 10 xs)
+first_line [] h = absurd cc
 first_line (x ∷ xs) h = lines_are x xs
 
-pub takes : (r q : Reader) (o : Option BadField) → ◌≡◌ {A = Result (Unit {0}) BadField × Reader} (Ok tt, q) (taken_or o r)
+-- any other begins with what stands before its first line feed
+pub begins : (text line rest : List ℕ) → eqb (length text) 0 ≡ false → line ≡ before 10 text → rest ≡ after 10 text → lines_of text ≡ line ∷ lines_of rest
+begins text line rest h a b = first_line text h ∙ ap (λ (l : List ℕ). l ∷ lines_of (after 10 text)) (sym a) ∙ ap (λ (r : List ℕ). line ∷ lines_of r) (sym b)
+
+---- A bad field, told of a line
+
+abbrev pub in_line : {A : Type 0} → ℕ → Result A BadField → Result A BadLine
+in_line k (Ok a) = Ok a
+in_line k (Err bad) = Err (record { line = k; at = bad })
+
+-- an error that is told of a line
+pub told : {A : Type 0} (k : ℕ) (r : Result A BadField) (s : Result A BadLine) (P : BadField → BadLine → Type 0)
+    → MatchResult r (λ a. s ≡ Ok a) (λ bad. IsErrAnd s (P bad)) → ((at : BadField) (bad : BadLine) → P at bad → bad ≡ record { line = k; at = at }) → s ≡ in_line k r
+told k (Ok a) s P h tells = h
+told {A} k (Err at) s P h tells =
+    let p = err_from_is_err_and s h in
+    p.1 ∙ ap (λ (bad : BadLine). Err bad) (tells at p.0 p.2)
+
+pub told_ok : {A : Type 0} (k : ℕ) (r : Result A BadField) (a : A) → Ok a ≡ in_line k r → r ≡ Ok a
+told_ok k (Ok b) a h = cc
+told_ok k (Err bad) a h = absurd cc
+
+---- What the reader makes of the next line
+
+takes_or : (r q : Reader) (o : Option BadField) → ◌≡◌ {A = Result (Unit {0}) BadField × Reader} (Ok tt, q) (taken_or o r)
     → (o ≡ None) × (q ≡ moved_on r.stage r.left r.width)
-takes r q None e = (refl, ap (λ p. p.1) e)
-takes r q (Some bad) e =
-    absurd (let a : ◌≡◌ {A = Result (Unit {0}) BadField} (Ok tt) (Err bad) = ap (λ p. p.0) e in let z : ◌≡◌ {A = ℕ} 0 1 = cc in omega arith)
+takes_or r q None e = (refl, ap (λ p. p.1) e)
+takes_or r q (Some bad) e = absurd (let a : ◌≡◌ {A = Result (Unit {0}) BadField} (Ok tt) (Err bad) = ap (λ p. p.0) e in cc)
 
-pub refuses : (r q : Reader) (o : Option BadField) (bad : BadField) → ◌≡◌ {A = Result (Unit {0}) BadField × Reader} (Err bad, q) (taken_or o r) → o ≡ Some bad
-refuses r q None bad e =
-    absurd (let a : ◌≡◌ {A = Result (Unit {0}) BadField} (Err bad) (Ok tt) = ap (λ p. p.0) e in let z : ◌≡◌ {A = ℕ} 0 1 = cc in omega arith)
-refuses r q (Some b) bad e = let a : ◌≡◌ {A = Result (Unit {0}) BadField} (Err bad) (Err b) = ap (λ p. p.0) e in cc
+refuses_or : (r q : Reader) (o : Option BadField) (bad : BadField) → ◌≡◌ {A = Result (Unit {0}) BadField × Reader} (Err bad, q) (taken_or o r) → o ≡ Some bad
+refuses_or r q None bad e = absurd (let a : ◌≡◌ {A = Result (Unit {0}) BadField} (Err bad) (Ok tt) = ap (λ p. p.0) e in cc)
+refuses_or r q (Some b) bad e = let a : ◌≡◌ {A = Result (Unit {0}) BadField} (Err bad) (Err b) = ap (λ p. p.0) e in cc
 
--- a bad shape is what is bad of the next line
-pub bad_next_lem : (k : ℕ) (stage : Stage) (width : ℕ) (l : List ℕ) (ls xs : Lines) (bad : BadField) → xs ≡ l ∷ ls → bad_shape stage width (shape_of l) ≡ Some bad
-    → bad_next k stage width xs ≡ Some (record { line = k; at = bad })
-bad_next_lem k stage width l ls xs bad e h = ap (bad_next k stage width) e ∙ ap (at_line k) h
+-- a line that the reader takes may stand there, and moves it on
+pub takes : (k : ℕ) (r q : Reader) (line : List ℕ) (shape : Shape) (t : Result (Unit {0}) BadField) → shape ≡ shape_of line
+    → ◌≡◌ {A = Result (Unit {0}) BadField × Reader} (t, q) (taken_or (bad_shape r.stage r.width shape) r) → Ok tt ≡ in_line k t
+    → (bad_shape r.stage r.width (shape_of line) ≡ None) × (q ≡ moved_on r.stage r.left r.width)
+takes k r q line shape (Ok u) s e h = let p = takes_or r q (bad_shape r.stage r.width shape) e in (ap (bad_shape r.stage r.width) (sym s) ∙ p.0, p.1)
+takes k r q line shape (Err at) s e h = absurd cc
+
+-- any other is bad
+pub refuses : (k : ℕ) (r q : Reader) (text line rest : List ℕ) (shape : Shape) (t : Result (Unit {0}) BadField) (bad : BadLine) → shape ≡ shape_of line
+    → lines_of text ≡ line ∷ lines_of rest → ◌≡◌ {A = Result (Unit {0}) BadField × Reader} (t, q) (taken_or (bad_shape r.stage r.width shape) r) → Err bad ≡ in_line k t
+    → bad_next k r.stage r.width (lines_of text) ≡ Some bad
+refuses k r q text line rest shape (Ok u) bad s l e h = absurd cc
+refuses k r q text line rest shape (Err at) bad s l e h =
+    let same : record { line = k; at = at } ≡ bad = cc in
+    ap (bad_next k r.stage r.width) l
+    ∙ ap (at_line k) (ap (bad_shape r.stage r.width) (sym s) ∙ refuses_or r q (bad_shape r.stage r.width shape) at e)
+    ∙ ap (λ (b : BadLine). Some b) same
 
 ---- What a stage that wants a line makes of it
 
-bad_shape_lem : {A : Type 0} (k : ℕ) (o : Option BadField) (read : Result A BadField) (next : A → Lines) (bad : BadLine) → at_line k o ≡ Some bad
-    → goes_on k (fits o read) next ≡ bad_line bad
-bad_shape_lem k None read next bad h = absurd (let z : ◌≡◌ {A = ℕ} 0 1 = cc in omega arith)
-bad_shape_lem k (Some b) read next bad h = let e : record { line = k; at = b } ≡ bad = cc in ap bad_line e
+abbrev pub ended : {A : Type 0} → Result A BadLine → (A → Lines) → Lines
+ended (Ok a) next = next a
+ended (Err bad) next = bad_line bad
 
-pub wanted_bad : {A : Type 0} (k : ℕ) (stage : Stage) (width : ℕ) (read : List ℕ → Result A BadField) (next : A → Lines → Lines) (ls : Lines) (bad : BadLine)
-    → bad_next k stage width ls ≡ Some bad → wanted k stage width read next ls ≡ bad_line bad
-wanted_bad k stage width read next [] bad h = let e : record { line = k; at = wrong_letter } ≡ bad = cc in ap bad_line e
-wanted_bad k stage width read next (l ∷ ls) bad h = bad_shape_lem k (bad_shape stage width (shape_of l)) (read l) (λ a. next a ls) bad h
+goes_on_ended : {A : Type 0} (k : ℕ) (r : Result A BadField) (next : A → Lines) → goes_on k r next ≡ ended (in_line k r) next
+goes_on_ended k (Ok a) next = refl
+goes_on_ended k (Err bad) next = refl
 
-pub wanted_line : {A : Type 0} (k : ℕ) (stage : Stage) (width : ℕ) (read : List ℕ → Result A BadField) (next : A → Lines → Lines) (xs : Lines) (l : List ℕ) (ls : Lines)
-    → xs ≡ l ∷ ls → bad_shape stage width (shape_of l) ≡ None → wanted k stage width read next xs ≡ goes_on k (read l) (λ a. next a ls)
-wanted_line {A} k stage width read next xs l ls e h =
-    ap (wanted k stage width read next) e ∙ ap (λ (o : Option BadField). goes_on k (fits o (read l)) (λ a. next a ls)) h
+-- a line that may stand there is read
+pub wanted_read : {A : Type 0} (k : ℕ) (stage : Stage) (width : ℕ) (read : List ℕ → Result A BadField) (next : A → Lines → Lines) (xs : Lines) (l : List ℕ) (ls : Lines) (s : Result A BadLine)
+    → xs ≡ l ∷ ls → bad_shape stage width (shape_of l) ≡ None → s ≡ in_line k (read l) → wanted k stage width read next xs ≡ ended s (λ a. next a ls)
+wanted_read {A} k stage width read next xs l ls s e h r =
+    ap (wanted k stage width read next) e
+    ∙ ap (λ (o : Option BadField). goes_on k (fits o (read l)) (λ a. next a ls)) h
+    ∙ goes_on_ended k (read l) (λ a. next a ls)
+    ∙ ap (λ (q : Result A BadLine). ended q (λ a. next a ls)) (sym r)
 
-pub wanted_read : {A : Type 0} (k : ℕ) (stage : Stage) (width : ℕ) (read : List ℕ → Result A BadField) (next : A → Lines → Lines) (xs : Lines) (l : List ℕ) (ls : Lines) (a : A)
-    → xs ≡ l ∷ ls → bad_shape stage width (shape_of l) ≡ None → read l ≡ Ok a → wanted k stage width read next xs ≡ next a ls
-wanted_read {A} k stage width read next xs l ls a e h r =
-    wanted_line k stage width read next xs l ls e h ∙ ap (λ (q : Result A BadField). goes_on k q (λ b. next b ls)) r
+goes_on_unread : {A : Type 0} (k : ℕ) (o : Option BadField) (r : Result A BadField) (next : Lines) → goes_on k (fits o (let_go r)) (λ _. next) ≡ goes_on k (fits o r) (λ _. next)
+goes_on_unread k (Some bad) r next = refl
+goes_on_unread k None (Ok a) next = refl
+goes_on_unread k None (Err bad) next = refl
 
-pub wanted_field : {A : Type 0} (k : ℕ) (stage : Stage) (width : ℕ) (read : List ℕ → Result A BadField) (next : A → Lines → Lines) (xs : Lines) (l : List ℕ) (ls : Lines) (bad : BadField)
-    → xs ≡ l ∷ ls → bad_shape stage width (shape_of l) ≡ None → read l ≡ Err bad → wanted k stage width read next xs ≡ bad_line (record { line = k; at = bad })
-wanted_field {A} k stage width read next xs l ls bad e h r =
-    wanted_line k stage width read next xs l ls e h ∙ ap (λ (q : Result A BadField). goes_on k q (λ b. next b ls)) r
+-- where the rest does not ask for what was read, it may be let go
+pub wanted_unread : {A : Type 0} (k : ℕ) (stage : Stage) (width : ℕ) (read : List ℕ → Result A BadField) (next : Lines → Lines) (ls : Lines)
+    → wanted k stage width (λ l. let_go (read l)) (λ _. next) ls ≡ wanted k stage width read (λ _. next) ls
+wanted_unread k stage width read next [] = refl
+wanted_unread k stage width read next (l ∷ ls) = goes_on_unread k (bad_shape stage width (shape_of l)) (read l) (next ls)
+
+-- after the head, what the line of the chooser leads to
+pub opened : (head : HeadLine) (ls rest end : Lines) (r : Reader) → at_head ls ≡ at_chooser head rest → r ≡ record { stage = Chooser; left = 0; width = 0 }
+    → wanted 2 r.stage r.width (λ l. let_go (read_chooser 256 l)) (λ _. of_kind head.kind head.cells) rest ≡ end → at_head ls ≡ end
+opened head ls rest end r a s w =
+    let next = of_kind head.kind head.cells in
+    a
+    ∙ sym (wanted_unread 2 Chooser 0 (read_chooser 256) next rest)
+    ∙ sym (ap (λ (q : Reader). wanted 2 q.stage q.width (λ l. let_go (read_chooser 256 l)) (λ _. next) rest) s)
+    ∙ w
+
+calls_bad_of : {V : Type 0} (form : Form V) (k width : ℕ) (xs : Lines) (bad : BadLine) (l : List ℕ) (ls : Lines) → xs ≡ l ∷ ls → bad_next k Calls width xs ≡ Some bad
+    → (values : List V) → at_calls form k values xs ≡ bad_line bad
+calls_bad_of form k width [] bad l ls e h values = absurd cc
+calls_bad_of form k width (x ∷ xs) bad l ls e h values = let same : record { line = k; at = wrong_letter } ≡ bad = cc in ap bad_line same
 
 -- among the calls every line is bad for its first letter
-pub calls_bad : {V : Type 0} (form : Form V) (k : ℕ) (stage : Stage) (width : ℕ) (l : List ℕ) (ls xs : Lines) (bad : BadLine) → stage ≡ Calls → xs ≡ l ∷ ls
-    → bad_next k stage width xs ≡ Some bad → (values : List V) → at_calls form k values xs ≡ bad_line bad
-calls_bad form k stage width l ls xs bad s e h values =
-    let first : ◌≡◌ {A = Option BadLine} (Some (record { line = k; at = wrong_letter })) (Some bad)
-    = sym (ap (λ (q : Stage). bad_next k q width xs) s ∙ ap (bad_next k Calls width) e) ∙ h in
-    let same : record { line = k; at = wrong_letter } ≡ bad = cc in
-    ap (at_calls form k values) e ∙ ap bad_line same
+pub calls_bad : {V : Type 0} (form : Form V) (k : ℕ) (r : Reader) (text : List ℕ) (bad : BadLine) → r.stage ≡ Calls → eqb (length text) 0 ≡ false
+    → bad_next k r.stage r.width (lines_of text) ≡ Some bad → (values : List V) → at_calls form k values (lines_of text) ≡ bad_line bad
+calls_bad form k r text bad s e h =
+    calls_bad_of form k r.width (lines_of text) bad (before 10 text) (lines_of (after 10 text)) (first_line text e) (sym (ap (λ (q : Stage). bad_next k q r.width (lines_of text)) s) ∙ h)

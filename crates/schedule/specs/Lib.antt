@@ -1,3 +1,4 @@
 pub mod Accounts
 pub mod Ranges
 pub mod Filling
+pub mod Reading

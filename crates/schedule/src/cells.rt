@@ -1,27 +1,26 @@
-ghost use Rattle.std.specs.Prelude.{◌≡◌, ℕ, ◌<◌, [], Ok, Err};
+ghost use Rattle.std.specs.Prelude.{◌≡◌, [], Ok, Err};
 ghost use Rattle.text.specs.Split.{lines_of};
-ghost use Rattle.rules.specs.Contents.{contents_of, Fits, Same};
+ghost use Rattle.rules.specs.Contents.{contents_of, Same};
 ghost use Rattle.rules.specs.Heads.{dimensions_of, filling_of};
-ghost use Rattle.rules.specs.Making.{one_more_filled, with_value};
-ghost use Rattle.schedule.specs.Accounts.{at_cells, bad_line};
+ghost use Rattle.schedule.specs.Accounts.{at_cells, bad_line, read_cell};
 ghost use Rattle.schedule.specs.Filling.{FilledTo};
 
-use crate::reading::cell_line;
+use crate::reading::read_next;
 use register::making::fill;
 use rules::head::Filling;
 use rules::tables::Tables;
 use stages::stage::Reader;
-use terms::refusals::BadLine;
+use terms::refusals::{BadField, BadLine};
+use text::read_field;
 use values::kinds::Kind;
+use values::reading::read_value;
 
-// Fills the next cell of a register that has one and whose tables fit, so that nothing is refused.
-fn fill_next<K: Kind>(head: &mut Filling, t: &mut Tables<'_, K>, value: K)
-    requires { (Fits {V = K} (dimensions_of head.old.sizes) (contents_of K t.old)) × (head.old.filled < head.old.sizes.cells) }
-    ensures same { Same K t.new t.old }
-    ensures filled { filling_of head.new ≡ one_more_filled (filling_of head.old) }
-    ensures contents { contents_of K t.new ≡ with_value head.old.filled value (contents_of K t.old) }
+// Reads a cell's value, which stands behind the line's letter.
+fn read_cell<K: Kind>(line: &[u8]) -> Result<K, BadField>
+    ensures { result ≡ read_cell K.form line.now }
 {
-    let _ = fill(head, t, value);
+    let (_, fields) = read_field(line);
+    read_value(fields, 2)
 }
 
 // Fills all cells from the lines of a text, and answers the text after them.
@@ -36,11 +35,11 @@ pub(crate) fn fill_cells<'a, K: Kind>(
     ensures sizes { dimensions_of head.new.sizes ≡ dimensions_of head.old.sizes }
     ensures read { elim result [ Ok rest ↦ FilledTo K.form (lines_of text.now) head.old.sizes.cells (filling_of head.new) (contents_of K t.new) reader.new (lines_of rest.now) | Err bad ↦ at_cells K.form head.old.sizes.cells 3 [] (lines_of text.now) ≡ bad_line bad ] }
 {
-    let cells = head.sizes.cells;
     let mut rest = text;
-    for i in 0..cells {
-        let (value, after) = cell_line::<K>(reader, 3 + i, rest)?;
-        fill_next(head, t, value);
+    for number in 3..3 + head.sizes.cells {
+        // A closure, since the check does not take a generic function by its name here.
+        let (value, after) = read_next(reader, number, rest, |line| read_cell(line))?;
+        fill(head, t, value).unwrap();
         rest = after;
     }
     Ok(rest)

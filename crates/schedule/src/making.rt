@@ -1,8 +1,7 @@
 ghost use Rattle.std.specs.Prelude.{◌≡◌, List, [], map, Ok, Err};
 ghost use Rattle.text.specs.Split.{lines_of};
 ghost use Rattle.rules.specs.Contents.{contents_of, Fits, Same};
-ghost use Rattle.rules.specs.Heads.{dimensions_of, started_of};
-ghost use Rattle.rules.specs.Making.{fresh_head, fresh_contents};
+ghost use Rattle.rules.specs.Heads.{dimensions_of};
 ghost use Rattle.output.specs.Lines.{value_line};
 ghost use Rattle.stages.specs.declared.stage.Stage.TheVariants.{Cells, Calls};
 ghost use Rattle.schedule.specs.Accounts.{at_cells, at_calls, bad_line};
@@ -17,19 +16,6 @@ use stages::stage::Reader;
 use terms::refusals::BadLine;
 use values::kinds::Kind;
 
-// Starts a register whose cells are all filled and whose tables fit, so that nothing is refused.
-fn start_filled<K: Kind>(head: Filling, t: &mut Tables<'_, K>) -> Started
-    requires { (Fits {V = K} (dimensions_of head.sizes) (contents_of K t.old)) × (head.filled ≡ head.sizes.cells) }
-    ensures same { Same K t.new t.old }
-    ensures head { started_of result ≡ fresh_head (dimensions_of head.sizes) }
-    ensures contents { contents_of K t.new ≡ fresh_contents {V = K} (dimensions_of head.sizes) (contents_of K t.old) }
-{
-    match start(head, t) {
-        Ok(started) => started,
-        Err(_) => unreachable(),
-    }
-}
-
 // Reads the lines of calls, from line `number` on. No call is built yet, so that the reader takes no line here.
 fn read_calls<K: Kind>(reader: &mut Reader, number: usize, text: &[u8]) -> Result<(), BadLine>
     requires { reader.old.stage ≡ Calls }
@@ -38,10 +24,8 @@ fn read_calls<K: Kind>(reader: &mut Reader, number: usize, text: &[u8]) -> Resul
     if text.is_empty() {
         return Ok(());
     }
-    match next_line(reader, number, text) {
-        Ok(_) => Ok(()),
-        Err(bad) => Err(bad),
-    }
+    next_line(reader, number, text)?;
+    Ok(())
 }
 
 // Makes a register from the lines of its cells and calls: fills it, starts it, and makes its calls.
@@ -57,7 +41,7 @@ pub(crate) fn make_register<K: Kind>(
 {
     let mut head = Filling::new(sizes);
     let rest = fill_cells(&mut head, t, reader, text)?;
-    let started = start_filled(head, t);
+    let started = start(head, t).unwrap();
     read_calls::<K>(reader, 3 + sizes.cells, rest)?;
     Ok(started)
 }

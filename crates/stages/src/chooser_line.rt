@@ -3,10 +3,10 @@ ghost use Rattle.text.specs.Split.{field_count};
 ghost use Rattle.stages.specs.HeadLines.{without_fields};
 ghost use Rattle.stages.specs.ChooserLines.{stride_in, stride_of, numbers_in, numbers_of, read_chooser, choice_of};
 
-use crate::stage::letter_of;
+use crate::stage::{letter_of, read_number};
 use choosers::stride::Stride;
 use terms::refusals::{BadField, Cause};
-use text::{count_fields, number, read_field};
+use text::{count_fields, read_field};
 
 // What a chooser line says: a stride, or a script of so many numbers, which stand in the list that was lent for them.
 #[derive(Drop)]
@@ -20,19 +20,8 @@ fn read_stride(rest: &[u8]) -> Result<Stride, BadField>
     ensures { stride_of result ≡ stride_in rest.now }
 {
     let (field, _) = read_field(rest);
-    let Some(step) = number(field) else {
-        return Err(BadField {
-            field: 3,
-            cause: Cause::NoNumber,
-        });
-    };
-    match Stride::new(step) {
-        Ok(stride) => Ok(stride),
-        Err(_) => Err(BadField {
-            field: 3,
-            cause: Cause::OutOfRange,
-        }),
-    }
+    let step = read_number(field, 3)?;
+    Stride::new(step).map_err(|_| Cause::OutOfRange.in_field(3))
 }
 
 // Reads a script's numbers, 1 to 256, from what stands behind the chooser's letter into a lent list, and answers how many.
@@ -43,21 +32,12 @@ fn read_script(line: &[u8], numbers: &mut [u64]) -> Result<usize, BadField>
 {
     let count = count_fields(line);
     if count > 256 || count > numbers.len() {
-        return Err(BadField {
-            field: 1,
-            cause: Cause::WrongCount,
-        });
+        return Err(Cause::WrongCount.in_field(1));
     }
     let mut rest = line;
-    for i in 0..count {
+    for (i, slot) in numbers[..count].iter_mut().enumerate() {
         let (field, after) = read_field(rest);
-        let Some(x) = number(field) else {
-            return Err(BadField {
-                field: 3 + i,
-                cause: Cause::NoNumber,
-            });
-        };
-        numbers[i] = x;
+        *slot = read_number(field, 3 + i)?;
         rest = after;
     }
     Ok(count)
@@ -73,9 +53,6 @@ pub fn read_chooser(line: &[u8], numbers: &mut [u64]) -> Result<ChooserLine, Bad
     match letter_of(letter) {
         Some(b'S') => Ok(ChooserLine::Stride(read_stride(rest)?)),
         Some(b'X') => Ok(ChooserLine::Script(read_script(rest, numbers)?)),
-        _ => Err(BadField {
-            field: 2,
-            cause: Cause::NoNumber,
-        }),
+        _ => Err(Cause::NoNumber.in_field(2)),
     }
 }

@@ -1,9 +1,9 @@
 ghost use Rattle.std.specs.Prelude.{◌≡◌};
 ghost use Rattle.stages.specs.HeadLines.{kind_in, size_in, read_head};
 
-use crate::stage::letter_of;
+use crate::stage::{letter_of, read_number};
 use terms::refusals::{BadField, Cause};
-use text::{number, read_field};
+use text::read_field;
 
 // The kind of a register's values, as the head line names it.
 #[derive(Clone, Copy)]
@@ -28,10 +28,7 @@ fn read_kind(field: &[u8]) -> Result<KindName, BadField>
     match letter_of(field) {
         Some(b'C') => Ok(KindName::Card),
         Some(b'D') => Ok(KindName::Dial),
-        _ => Err(BadField {
-            field: 2,
-            cause: Cause::NoNumber,
-        }),
+        _ => Err(Cause::NoNumber.in_field(2)),
     }
 }
 
@@ -39,17 +36,11 @@ fn read_kind(field: &[u8]) -> Result<KindName, BadField>
 fn read_size(field: &[u8], at: usize, most: u64) -> Result<u64, BadField>
     ensures { result ≡ size_in at most field.now }
 {
-    match number(field) {
-        None => Err(BadField {
-            field: at,
-            cause: Cause::NoNumber,
-        }),
-        Some(n) if n < 1 || n > most => Err(BadField {
-            field: at,
-            cause: Cause::OutOfRange,
-        }),
-        Some(n) => Ok(n),
+    let n = read_number(field, at)?;
+    if n < 1 || n > most {
+        return Err(Cause::OutOfRange.in_field(at));
     }
+    Ok(n)
 }
 
 // Reads a head line, `R,kind,n,m,b`: 1 to 64 cells, 1 to 8 crews and 1 to 256 book entries.

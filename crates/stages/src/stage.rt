@@ -1,10 +1,12 @@
-ghost use Rattle.std.specs.Prelude.{◌≡◌, Result as Answered};
+ghost use Rattle.std.specs.Prelude.{◌≡◌, Ok, Result as Answered};
 ghost use Rattle.terms.specs.declared.refusals.BadField.{BadField as Bad};
 ghost use Rattle.stages.specs.declared.stage.Reader.{Reader as Machine};
 ghost use Rattle.stages.specs.Stages.{letter_of, shape_of, taken};
+ghost use Rattle.text.specs.Numbers.{number_in};
+ghost use Rattle.values.specs.Forms.{is_number};
 
 use terms::refusals::{BadField, Cause};
-use text::{count_fields, read_field};
+use text::{count_fields, number, read_field};
 
 // Where the reader of a schedule stands: at the head line, at the chooser line, among the cells, or among the calls.
 #[derive(Clone, Copy)]
@@ -14,16 +16,6 @@ pub enum Stage {
     Cells,
     Calls,
 }
-
-pub(crate) const WRONG_LETTER: BadField = BadField {
-    field: 1,
-    cause: Cause::WrongLetter,
-};
-
-const WRONG_COUNT: BadField = BadField {
-    field: 1,
-    cause: Cause::WrongCount,
-};
 
 // What decides whether a line may stand at a stage: the letters in its first two fields, and how many fields it has.
 #[derive(Clone, Copy)]
@@ -37,11 +29,17 @@ pub struct Shape {
 pub fn letter_of(field: &[u8]) -> Option<u8>
     ensures { result ≡ letter_of field.now }
 {
-    if field.len() == 1 {
-        Some(field[0])
-    } else {
-        None
+    match field {
+        [letter] => Some(*letter),
+        _ => None,
     }
+}
+
+// The number in field `at` of a line; it has no range.
+pub(crate) fn read_number(field: &[u8], at: usize) -> Result<u64, BadField>
+    ensures { result ≡ is_number at (number_in field.now) (λ n. Ok n) }
+{
+    number(field).ok_or(Cause::NoNumber.in_field(at))
 }
 
 // A line's shape.
@@ -70,24 +68,24 @@ impl Reader {
     pub fn take(&mut self, line: Shape) -> Result<(), BadField>
         ensures { ◌≡◌ {A = Answered (Unit {0}) Bad × Machine} (result, self.new) (taken self.old line) }
     {
-        let fields = line.fields;
-        match (self.stage, line.letter, line.second) {
-            (Stage::Head, Some(b'R'), _) if fields == 5 => self.stage = Stage::Chooser,
-            (Stage::Chooser, Some(b'P'), Some(b'S')) if fields == 3 => self.stage = Stage::Cells,
-            (Stage::Chooser, Some(b'P'), Some(b'X')) if 3 <= fields && fields <= 258 => self.stage =
-                Stage::Cells,
-            (Stage::Chooser, Some(b'P'), Some(b'S' | b'X')) => return Err(WRONG_COUNT),
-            (Stage::Chooser, Some(b'P'), _) if 2 <= fields => self.stage = Stage::Cells,
-            (Stage::Cells, Some(b'V'), _) if 1 <= fields && fields - 1 == self.width => {
-                if self.left <= 1 {
+        match (self.stage, line.letter, line.second, line.fields) {
+            (Stage::Head, Some(b'R'), _, 5) => self.stage = Stage::Chooser,
+            (Stage::Chooser, Some(b'P'), Some(b'S'), 3)
+            | (Stage::Chooser, Some(b'P'), Some(b'X'), 3..=258) => self.stage = Stage::Cells,
+            (Stage::Chooser, Some(b'P'), Some(b'S' | b'X'), _) => {
+                return Err(Cause::WrongCount.in_field(1));
+            }
+            (Stage::Chooser, Some(b'P'), _, 2..) => self.stage = Stage::Cells,
+            (Stage::Cells, Some(b'V'), _, 1..) if line.fields - 1 == self.width => {
+                self.left = self.left.saturating_sub(1);
+                if self.left == 0 {
                     self.stage = Stage::Calls;
                 }
-                self.left = self.left.saturating_sub(1);
             }
-            (Stage::Head, Some(b'R'), _)
-            | (Stage::Chooser, Some(b'P'), _)
-            | (Stage::Cells, Some(b'V'), _) => return Err(WRONG_COUNT),
-            _ => return Err(WRONG_LETTER),
+            (Stage::Head, Some(b'R'), _, _)
+            | (Stage::Chooser, Some(b'P'), _, _)
+            | (Stage::Cells, Some(b'V'), _, _) => return Err(Cause::WrongCount.in_field(1)),
+            _ => return Err(Cause::WrongLetter.in_field(1)),
         }
         Ok(())
     }

@@ -1,26 +1,30 @@
-use Rattle.std.proofs.Common.{◌≡◌, ℕ, ◌+◌, [], map, sym, ap, ◌∙◌}
+use Rattle.std.proofs.Common.{map, ap, ◌∙◌, sym}
+use Rattle.std.proofs.lemmas.Result.{err_from_is_err_and}
 use Rattle.rules.specs.declared.sizes.Sizes.{Sizes}
 use Rattle.rules.specs.Heads.{Dimensions, filling_of}
-use Rattle.rules.specs.Contents.{Contents, contents_of}
-use Rattle.rules.proofs.Lending.{same_then}
+use Rattle.rules.specs.Contents.{contents_of}
+use Rattle.rules.specs.Making.{StartOutcome}
+use Rattle.rules.proofs.Accepting.{start_accepts}
 use Rattle.output.specs.Lines.{value_line}
 use Rattle.text.specs.Split.{lines_of}
-use Rattle.schedule.specs.Accounts.{at_cells, at_calls}
 use Rattle.schedule.proofs.Filling.{all_filled}
 use Rattle.schedule.proofs.making.make_register.Goals as goal
 
-pub returns : goal.returns
-returns g c =
+pub returns-in_err-read_calls-clause-read : goal.returns-in_err-read_calls-clause-read
+returns-in_err-read_calls-clause-read g c =
+    let p = err_from_is_err_and c.from_residual-in_err-read_calls.result c.from_residual-in_err-read_calls.ensures.1 in
     let filled = c.in_ok-rest.ensures in
-    let n : c.new-head.result.sizes.cells ≡ c.args.sizes.cells = ap (λ (s : Sizes). s.cells) c.new-head.ensures.0 in
-    let cells : c.fill_cells.new.head.sizes.cells ≡ c.new-head.result.sizes.cells = ap (λ (d : Dimensions). d.cells) filled.sizes in
-    let read = all_filled g.K.Kind.form (lines_of c.args.text.now) c.new-head.result.sizes.cells (filling_of c.fill_cells.new.head) (contents_of _ c.fill_cells.new.t) c.fill_cells.new.reader (lines_of c.in_ok-rest.rest.now) filled.read cells in
-    record {
-      same = same_then _ _ _ _ filled.same c.start_filled-started.ensures.same;
-      read =
-          sym (ap (λ (k : ℕ). at_cells g.K.Kind.form k 3 [] (lines_of c.args.text.now)) n)
-          ∙ read
-          ∙ ap (λ (k : ℕ). at_calls g.K.Kind.form (3 + k) (contents_of _ c.fill_cells.new.t).values (lines_of c.in_ok-rest.rest.now)) n
-          ∙ c.in_ok-read_calls.ensures (contents_of _ c.fill_cells.new.t).values
-          ∙ sym (ap (λ (q : Contents _). map (value_line g.K.Kind.form) q.values) c.start_filled-started.ensures.contents);
-    }
+    let cells = ap (λ (d : Dimensions). d.cells) filled.sizes in
+    let sizes = ap (λ (s : Sizes). s.cells) c.new-head.ensures.0 in
+    rw (p.1, p.2) (all_filled g.K.Kind.form (lines_of c.args.text.now) c.new-head.result.sizes.cells c.args.sizes.cells (filling_of c.fill_cells.new.head) (contents_of _ c.fill_cells.new.t)
+    c.fill_cells.new.reader (lines_of c.in_ok-rest.rest.now) _ filled.read cells sizes (c.in_err-read_calls.ensures (contents_of _ c.fill_cells.new.t).values))
+
+pub returns-clause-read : goal.returns-clause-read
+returns-clause-read g c =
+    let filled = c.in_ok-rest.ensures in
+    let cells = ap (λ (d : Dimensions). d.cells) filled.sizes in
+    let sizes = ap (λ (s : Sizes). s.cells) c.new-head.ensures.0 in
+    let started = c.start.ensures.outcome ∙ start_accepts (filling_of c.fill_cells.new.head) (contents_of _ c.fill_cells.new.t) filled.read.tables_fit (filled.read.counted ∙ sym cells) in
+    all_filled g.K.Kind.form (lines_of c.args.text.now) c.new-head.result.sizes.cells c.args.sizes.cells (filling_of c.fill_cells.new.head) (contents_of _ c.fill_cells.new.t)
+    c.fill_cells.new.reader (lines_of c.in_ok-rest.rest.now) _ filled.read cells sizes (c.in_ok-read_calls.ensures (contents_of _ c.fill_cells.new.t).values)
+    ∙ sym (ap (λ (o : StartOutcome _). map (value_line g.K.Kind.form) o.contents.values) started)

@@ -1,29 +1,19 @@
-use Rattle.std.proofs.Common.{◌≡◌, ◌∷◌, sym, ap, ◌∙◌}
-use Rattle.stages.specs.Stages.{bad_shape}
-use Rattle.text.specs.Split.{lines_of}
-use Rattle.schedule.specs.Accounts.{bad_next}
-use Rattle.schedule.proofs.Nexts.{no_lines, first_line, takes, refuses, bad_next_lem}
+use Rattle.std.proofs.Common.{rules, sym, ◌∙◌}
+use Rattle.std.proofs.lemmas.Result.{err_from_is_err_and}
+use Rattle.schedule.proofs.Nexts.{begins, told, takes, refuses}
 use Rattle.schedule.proofs.reading.next_line.Goals as goal
 
-pub returns-then-is_empty : goal.returns-then-is_empty
-returns-then-is_empty c =
-    ap (bad_next c.args.number c.args.reader.now.stage c.args.reader.now.width) (no_lines c.args.text.now (sym c.if-is_empty.ensures))
+pub returns-in_err-map_err : goal.returns-in_err-map_err
+returns-in_err-map_err c =
+    let p = err_from_is_err_and c.from_residual.result c.from_residual.ensures.1 in
+    let split = begins c.args.text.now c.read_line.result.0.now c.read_line.result.1.now (sym c.if-is_empty.ensures) c.read_line.ensures.line c.read_line.ensures.rest in
+    let t = told c.args.number c.take.result c.map_err.result _ c.map_err.ensures.cases (λ at bad h. search rules) in
+    rw (p.1, p.2) (refuses c.args.number c.args.reader.now c.take.new.self c.args.text.now c.read_line.result.0.now c.read_line.result.1.now c.shape_of.result c.take.result c.in_err-map_err.field-0.0
+    c.shape_of.ensures split c.take.ensures (sym c.in_err-map_err.was ∙ t))
 
-pub returns-in-Ok : goal.returns-in-Ok
-returns-in-Ok c =
-    let first = first_line c.args.text.now (sym c.if-is_empty.ensures) in
-    let line = c.read_line.ensures.line in
-    let rest = ap lines_of c.read_line.ensures.rest in
-    let t = takes c.args.reader.now c.take.new.self (bad_shape c.args.reader.now.stage c.args.reader.now.width c.shape_of.result) c.in-Ok.ensures in
-    let shaped = ap (bad_shape c.args.reader.now.stage c.args.reader.now.width) c.shape_of.ensures in
-    (cc, sym shaped ∙ t.0, t.1)
-
-pub returns-in-Err : goal.returns-in-Err
-returns-in-Err c =
-    let first = first_line c.args.text.now (sym c.if-is_empty.ensures) in
-    let line = c.read_line.ensures.line in
-    let rest = ap lines_of c.read_line.ensures.rest in
-    let split : lines_of c.args.text.now ≡ c.read_line.result.0.now ∷ lines_of c.read_line.result.1.now = cc in
-    let t = refuses c.args.reader.now c.take.new.self (bad_shape c.args.reader.now.stage c.args.reader.now.width c.shape_of.result) c.in-Err.at c.in-Err.ensures in
-    let shaped = ap (bad_shape c.args.reader.now.stage c.args.reader.now.width) c.shape_of.ensures in
-    bad_next_lem c.args.number c.args.reader.now.stage c.args.reader.now.width c.read_line.result.0.now (lines_of c.read_line.result.1.now) (lines_of c.args.text.now) c.in-Err.at split (sym shaped ∙ t)
+pub returns : goal.returns
+returns c =
+    let split = begins c.args.text.now c.read_line.result.0.now c.read_line.result.1.now (sym c.if-is_empty.ensures) c.read_line.ensures.line c.read_line.ensures.rest in
+    let t = told c.args.number c.take.result c.map_err.result _ c.map_err.ensures.cases (λ at bad h. search rules) in
+    let taken = takes c.args.number c.args.reader.now c.take.new.self c.read_line.result.0.now c.shape_of.result c.take.result c.shape_of.ensures c.take.ensures (sym c.in_ok-map_err.was ∙ t) in
+    (split, taken.0, taken.1)
