@@ -1,3 +1,3 @@
 pub mod Turns
-pub mod Shifts
+pub mod Inserting
 pub mod Ended

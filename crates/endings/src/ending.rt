@@ -8,13 +8,13 @@ ghost use Rattle.endings.specs.Endings.{ended_at, MayEnd, AbandonedAt};
 use crate::book::insert;
 use crate::closing::{clear_row, count_ended, put_record};
 use crate::reads::raise_reads;
-use admission::looking::{closed_record, record_of, row};
+use admission::looking::{record_of, row};
 use admission::numbered::Crew;
 use choosers::chooser::Chooser;
 use rules::head::Started;
 use rules::tables::Tables;
 use terms::numbers::{CrewNumber, Place};
-use terms::records::{Ending, Entry};
+use terms::records::{Ending, Entry, JobRecord};
 
 // What every ending of a crew's job does, with the entry that goes into the book.
 pub fn end_job<V>(head: &mut Started, t: &mut Tables<'_, V>, crew: Crew, last: Entry)
@@ -25,7 +25,7 @@ pub fn end_job<V>(head: &mut Started, t: &mut Tables<'_, V>, crew: Crew, last: E
     raise_reads(head, t, crew, last.place);
     let from = row(head.sizes, crew);
     clear_row(t.flags, from, head.sizes.cells);
-    put_record(t.jobs, crew.number - 1, closed_record());
+    put_record(t.jobs, crew.number - 1, JobRecord::closed());
     insert(t.book, head.ended, last);
     count_ended(head, last.place);
 }

@@ -4,7 +4,7 @@ ghost use Rattle.rules.specs.JobCalls.{raised_reads};
 ghost use Rattle.rules.specs.Registers.{register_of};
 ghost use Rattle.endings.specs.Endings.{with_reads, raised_read};
 
-use admission::looking::{has_read, larger};
+use admission::looking::has_read;
 use admission::numbered::Crew;
 use rules::head::Started;
 use rules::tables::Tables;
@@ -19,7 +19,7 @@ fn raise_read<V>(head: &Started, t: &mut Tables<'_, V>, crew: Crew, place: Place
 {
     let old = t.read[i];
     t.read[i] = if has_read(head, t, crew, i) {
-        larger(old, place.0)
+        old.max(place.0)
     } else {
         old
     };

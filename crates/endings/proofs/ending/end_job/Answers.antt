@@ -13,7 +13,7 @@ returns g c = record {
       ended_all (register_of _ c.args.head.now c.args.t.now) (register_of _ c.args.head.now c.raise_reads.new.t) c.args.crew.number c.args.last.place.0 _ _ _ c.insert.new.book
       c.raise_reads.ensures.step
       (c.count_ended.ensures ∙ cond-true _ _ _ (and_from _ _ (lt-ltb _ _ h.under_top) (lt-ltb _ _ h.counted)))
-      (c.put_record.ensures ∙ ap (set c.raise_reads.new.t.jobs.now (c.args.crew.number - 1)) c.closed_record.ensures)
+      (c.put_record.ensures ∙ ap (set c.raise_reads.new.t.jobs.now (c.args.crew.number - 1)) search rules)
       (c.clear_row.ensures.cleared row_fits ∙ cleared_from c.raise_reads.new.t.flags.now c.row-from.result c.args.head.now.sizes.cells c.args.crew.number c.row-from.ensures.is);
   enters = λ h.
       let same-book = ap (λ x. x.tables.book) c.raise_reads.ensures.step in
