@@ -1,3 +1,2 @@
 pub mod Turns
-pub mod Inserting
-pub mod Ended
+mod Inserting

@@ -1,4 +1,4 @@
-use Rattle.std.proofs.Common.{arith, rules}
+use Rattle.std.proofs.Common.{rules}
 use Rattle.endings.proofs.Inserting.{inserted_at}
 use Rattle.endings.proofs.book.insert.Goals as goal
 
