@@ -1,9 +1,14 @@
 -- One of several, and the largest, over a range that counts from 0.
-use Rattle.std.proofs.Common.{◌≡◌, ℕ, zero, suc, ◌+◌, max, Bool, false, ◌||◌, List, [], ◌∷◌, ◌++◌, fold, refl, ap, ◌∙◌, ap₂, add-one, arith}
+use Rattle.std.proofs.Common.{◌≡◌, ℕ, zero, suc, ◌+◌, max, Bool, false, ◌||◌, List, [], ◌∷◌, ◌++◌, fold, map, Option, unwrap_or, refl, ap, ◌∙◌, ap₂, arith}
 use Rattle.std.proofs.Math.Bool.{or_comm}
 use Rattle.std.proofs.lemmas.List.Folds.{list_any-append}
 use Rattle.std.proofs.lemmas.List.Sums.{fold-append}
+use Rattle.std.proofs.lemmas.Iterator.{YieldsList}
+use Rattle.std.proofs.lemmas.Iterator.Consumers.{reduce_from_yields_List}
+use Rattle.std.proofs.lemmas.List.Folds.{max_of_map}
+use Rattle.std.specs.Iterator.{PicksByCmp}
 use Rattle.std.specs.List.{list_any, range_with_len}
+use Rattle.std.specs.Ordering.{nat_cmp, max_by_ordering}
 use Rattle.rules.specs.Tables.{some, most}
 
 range_more : (a n : ℕ) → range_with_len a (suc n) ≡ range_with_len a n ++ ((a + n) ∷ [])
@@ -18,7 +23,7 @@ some_over t (suc n) =
     ap (list_any (λ i. t (i + 1))) (range_more 0 n) ∙ (list_any-append (λ i. t (i + 1)) (range_with_len 0 n) ((0 + n) ∷ [])
     ∙ (ap (λ (b : Bool). others || b) (or_comm (t (0 + n + 1)) false) ∙ (or_comm others (t (0 + n + 1)) ∙ ap₂ ◌||◌ (ap t e) (some_over t n))))
 
-pub most_over : (f : ℕ → ℕ) (n : ℕ) → fold (λ a i. max a (f (i + 1))) 0 (range_with_len 0 n) ≡ most f n
+most_over : (f : ℕ → ℕ) (n : ℕ) → fold (λ a i. max a (f (i + 1))) 0 (range_with_len 0 n) ≡ most f n
 most_over f zero = refl
 most_over f (suc n) =
     let e : 0 + n + 1 ≡ suc n = omega arith in
@@ -26,5 +31,8 @@ most_over f (suc n) =
     let others = most_over f n in
     ap (fold (λ a i. max a (f (i + 1))) 0) (range_more 0 n) ∙ (fold-append (λ a i. max a (f (i + 1))) 0 (range_with_len 0 n) ((0 + n) ∷ []) ∙ omega arith)
 
-pub most_more : (f : ℕ → ℕ) (i x y z : ℕ) → x ≡ most f i → y ≡ f (i + 1) → z ≡ max y x → z ≡ most f (i + 1)
-most_more f i x y z e q k = rw add-one (k ∙ ap₂ max (q ∙ ap f (add-one i)) e)
+-- what `max` answers over the f of each
+pub most_from_max : {S : Type 0} {steps : S → Option ℕ → S → Type 0} (f : ℕ → ℕ) (n : ℕ) (s : S) (r : Option ℕ) → PicksByCmp steps max_by_ordering nat_cmp s r
+    → YieldsList steps (λ x. x) s (map (λ i. f (i + 1)) (range_with_len 0 n)) → unwrap_or r 0 ≡ most f n
+most_from_max f n s r ran chain =
+    ap (λ o. unwrap_or o 0) (reduce_from_yields_List (λ p z. max_by_ordering (nat_cmp p z) p z) s r ran chain) ∙ (max_of_map (λ i. f (i + 1)) (range_with_len 0 n) ∙ most_over f n)

@@ -1,4 +1,5 @@
-ghost use Rattle.std.specs.Prelude.{◌≡◌, ◌+◌, max};
+ghost use Rattle.std.specs.Prelude.{◌≡◌, ◌<◌};
+ghost use Rattle.rules.specs.Limits.{most_crews};
 ghost use Rattle.rules.specs.Tables.{most};
 ghost use Rattle.rules.specs.JobCalls.{touches as Touches, other_reader};
 ghost use Rattle.rules.specs.Registers.{register_of};
@@ -41,9 +42,12 @@ fn reader_bound<V>(head: &Started, t: &Tables<'_, V>, crew: Crew, other: Crew) -
 pub(crate) fn readers_bound<V>(head: &Started, t: &Tables<'_, V>, crew: Crew) -> u128
     ensures { result ≡ most (reader_bound (register_of V head.now t.now) crew.number) head.now.sizes.crews }
 {
-    let mut bound = 0;
-    for i in 0..head.sizes.crews {
-        bound = reader_bound(head, t, crew, Crew { number: i + 1 }).max(bound);
-    }
-    bound
+    (0..head.sizes.crews)
+        .map(
+            |i|
+                requires { i < most_crews }
+            { reader_bound(head, t, crew, Crew { number: i + 1 }) },
+        )
+        .max()
+        .unwrap_or(0)
 }

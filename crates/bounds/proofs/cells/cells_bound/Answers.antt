@@ -1,16 +1,12 @@
-use Rattle.std.proofs.Common.{◌+◌, unwrap_or, refl, ap, ◌∙◌, rules, tests, arith}
+use Rattle.std.proofs.Common.{◌+◌, ◌∙◌, rules, tests, arith}
 use Rattle.std.proofs.lemmas.Iterator.{YieldsList-from_range, YieldsList-from_map}
-use Rattle.std.proofs.lemmas.Iterator.Consumers.{reduce_from_yields_List}
-use Rattle.std.proofs.lemmas.List.Folds.{max_of_map}
-use Rattle.std.specs.List.{range_with_len}
 use Rattle.rules.specs.Registers.{register_of}
 use Rattle.bounds.specs.Bounds.{cell_bound}
-use Rattle.bounds.proofs.Looping.{most_over}
+use Rattle.bounds.proofs.Looping.{most_from_max}
 use Rattle.bounds.proofs.cells.cells_bound.Goals as goal
 
 pub returns : goal.returns
 returns g c =
     let f = cell_bound (register_of _ c.args.head.now c.args.t.now) c.args.crew.number in
     let n = c.args.head.now.sizes.cells in
-    c.unwrap_or.ensures ∙ (ap (λ o. unwrap_or o 0) (reduce_from_yields_List _ c.map.result _ c.max.ensures.ran (YieldsList-from_map _ (λ i. f (i + 1)) (YieldsList-from_range 0 n n c.map.ensures.source (omega arith)) c.map.ensures.closure (λ x b q k. search (rules, tests))))
-    ∙ (max_of_map (λ i. f (i + 1)) (range_with_len 0 n) ∙ most_over f n))
+    c.unwrap_or.ensures ∙ most_from_max f n c.map.result c.max.result c.max.ensures.ran (YieldsList-from_map _ (λ i. f (i + 1)) (YieldsList-from_range 0 n n c.map.ensures.source (omega arith)) c.map.ensures.closure (λ x b q k. search (rules, tests)))
