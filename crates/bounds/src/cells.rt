@@ -1,5 +1,5 @@
 ghost use Rattle.std.specs.Prelude.{◌≡◌, ◌+◌};
-ghost use Rattle.rules.specs.Tables.{at, most};
+ghost use Rattle.rules.specs.Tables.{most};
 ghost use Rattle.rules.specs.Registers.{register_of};
 ghost use Rattle.bounds.specs.Bounds.{cell_bound};
 

@@ -17,10 +17,13 @@ module _ {V A : Type 0} (W : Register V → List A → Register V) (G : Register
   pub turn_all : i ≡ length (G r) → a ≡ W r (each (f r) (G r))
   turn_all e = inv ∙ ap (W r) (ap (λ (k : ℕ). upto (one_more (f r) d) k (G r)) e ∙ all_turns (f r) d (G r))
 
--- a turn that changes its element under a test, where the test holds and where it does not
-module _ {A B : Type 0} (W : List A → B) (b : Bool) (xs : List A) (i : ℕ) (v d : A) where
-  pub changed : b ≡ true → W (set xs i v) ≡ W (set xs i (cond b v (get_or xs i d)))
-  changed e = ap (λ (x : A). W (set xs i x)) (sym (cond-true b v (get_or xs i d) e))
+-- a turn that changes its element under a test of the number, where the test holds and where it does not
+module _ {A B : Type 0} (W : List A → B) (test : ℕ → Bool) (i : ℕ) (b : Bool) (told : b ≡ test (i + 1)) (xs : List A) (v d : A) where
+  tested : test (suc i) ≡ b
+  tested = ap test (sym (add-one i)) ∙ sym told
 
-  pub kept : b ≡ false → W xs ≡ W (set xs i (cond b v (get_or xs i d)))
-  kept e = ap W (sym (rw e (set-get_or xs i d)))
+  pub changed : b ≡ true → W (set xs i v) ≡ W (set xs i (cond (test (suc i)) v (get_or xs i d)))
+  changed e = ap (λ (x : A). W (set xs i x)) (sym (cond-true (test (suc i)) v (get_or xs i d) (tested ∙ e)))
+
+  pub kept : b ≡ false → W xs ≡ W (set xs i (cond (test (suc i)) v (get_or xs i d)))
+  kept e = ap W (sym (rw (tested ∙ e) (set-get_or xs i d)))
