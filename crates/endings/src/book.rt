@@ -11,10 +11,10 @@ fn entries_before(day_book: &[Entry], place: Place) -> usize
     ensures above { AllWithin (λ entry. place.0 < entry.place.0) day_book.now result (length day_book.now) }
     ensures not_above { 0 < result → HoldsAt (λ entry. entry.place.0 ≤ place.0) day_book.now (result - 1) }
 {
-    match day_book.iter().rposition(|entry| entry.place <= place) {
-        Some(last) => last + 1,
-        None => 0,
-    }
+    day_book
+        .iter()
+        .rposition(|entry| entry.place <= place)
+        .map_or(0, |last| last + 1)
 }
 
 // Puts an entry into the day book, which is the first `ended` entries of the book: after those of lower and before those
