@@ -3,7 +3,7 @@ ghost use Rattle.rules.specs.JobCalls.{commit_low};
 ghost use Rattle.rules.specs.Registers.{register_of};
 
 use crate::cells::cells_bound;
-use crate::readers::{larger_bound, readers_bound};
+use crate::readers::readers_bound;
 use admission::looking::record_of;
 use admission::numbered::Crew;
 use rules::head::Started;
@@ -14,12 +14,7 @@ use rules::tables::Tables;
 pub fn commit_low<V>(head: &Started, t: &Tables<'_, V>, crew: Crew) -> u128
     ensures { result ≡ commit_low (register_of V head.now t.now) crew.number }
 {
-    let low = record_of(t, crew).low.0;
-    larger_bound(
-        low as u128,
-        larger_bound(
-            cells_bound(head, t, crew) as u128,
-            readers_bound(head, t, crew),
-        ),
-    )
+    let low = u128::from(record_of(t, crew).low.0);
+    let cells = u128::from(cells_bound(head, t, crew));
+    low.max(cells.max(readers_bound(head, t, crew)))
 }

@@ -1,4 +1,5 @@
-ghost use Rattle.std.specs.Prelude.{◌≡◌, ◌+◌, max};
+ghost use Rattle.std.specs.Prelude.{◌≡◌, ◌<◌};
+ghost use Rattle.rules.specs.Limits.{most_crews};
 ghost use Rattle.rules.specs.Tables.{most};
 ghost use Rattle.rules.specs.JobCalls.{touches as Touches, other_reader};
 ghost use Rattle.rules.specs.Registers.{register_of};
@@ -13,12 +14,7 @@ use rules::tables::Tables;
 fn touches<V>(head: &Started, t: &Tables<'_, V>, crew: Crew, other: Crew) -> bool
     ensures { result ≡ Touches (register_of V head.now t.now) crew.number other.number }
 {
-    for i in 0..head.sizes.cells {
-        if has_read(head, t, other, i) && has_written(head, t, crew, i) {
-            return true;
-        }
-    }
-    false
+    (0..head.sizes.cells).any(|i| has_read(head, t, other, i) && has_written(head, t, crew, i))
 }
 
 // The other crew is another one, has a job open, and that has read first-hand what the crew's job has written.
@@ -36,26 +32,22 @@ fn reader_bound<V>(head: &Started, t: &Tables<'_, V>, crew: Crew, other: Crew) -
     ensures { result ≡ reader_bound (register_of V head.now t.now) crew.number other.number }
 {
     if is_other_reader(head, t, crew, other) {
-        record_of(t, other).low.0 as u128 + 1
+        u128::from(record_of(t, other).low.0) + 1
     } else {
         0
     }
-}
-
-// The larger of two bounds.
-pub(crate) fn larger_bound(a: u128, b: u128) -> u128
-    ensures { result ≡ max a b }
-{
-    if a < b { b } else { a }
 }
 
 // The largest bound of all other jobs.
 pub(crate) fn readers_bound<V>(head: &Started, t: &Tables<'_, V>, crew: Crew) -> u128
     ensures { result ≡ most (reader_bound (register_of V head.now t.now) crew.number) head.now.sizes.crews }
 {
-    let mut bound = 0;
-    for i in 0..head.sizes.crews {
-        bound = larger_bound(reader_bound(head, t, crew, Crew { number: i + 1 }), bound);
-    }
-    bound
+    (0..head.sizes.crews)
+        .map(
+            |i|
+                requires { i < most_crews }
+            { reader_bound(head, t, crew, Crew { number: i + 1 }) },
+        )
+        .max()
+        .unwrap_or(0)
 }

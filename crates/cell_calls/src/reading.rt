@@ -1,7 +1,8 @@
-ghost use Rattle.std.specs.Prelude.{◌≡◌, ◌<◌, length, if◌then◌else◌, slice_index_or};
+ghost use Rattle.std.specs.Prelude.{◌≡◌, ◌<◌, length, slice_index_or};
 ghost use Rattle.rules.specs.declared.calls.Call.TheVariants.{Read as Reading};
 ghost use Rattle.rules.specs.Contents.{Same};
 ghost use Rattle.admission.specs.Lent.{CallPerformed};
+ghost use Rattle.cell_calls.specs.declared.reading.Shown.TheVariants.{Own, Stored};
 
 use admission::flags::{is_written, with_read};
 use admission::looking::{record_of, spot};
@@ -15,25 +16,31 @@ use terms::numbers::{CellNumber, CrewNumber, Place};
 use terms::records::JobRecord;
 use terms::refusals::Refusal;
 
-// The one-element part that a read shows: of the own values at `spot`, or of the register's values at `i`.
-fn look_up<'b, V>(t: &'b Tables<'_, V>, own: bool, spot: usize, i: usize) -> &'b [V]
-    requires { (spot < length t.now.own.now) × (i < length t.now.values.now) }
+// The value that a read shows, by its index: one of the own values, or one of the register's.
+#[derive(Clone, Copy)]
+enum Shown {
+    Own(usize),
+    Stored(usize),
+}
+
+// The one-element part of the table that has the shown value.
+fn look_up<'b, V>(t: &'b Tables<'_, V>, shown: Shown) -> &'b [V]
+    requires { elim shown [ Own k ↦ k < length t.now.own.now | Stored i ↦ i < length t.now.values.now ] }
     ensures one { length result.now ≡ 1 }
-    ensures shows { (d : V) → slice_index_or result.now 0 d ≡ (if own then slice_index_or t.now.own.now spot d else slice_index_or t.now.values.now i d) }
+    ensures shows { (d : V) → slice_index_or result.now 0 d ≡ (elim shown [ Own k ↦ slice_index_or t.now.own.now k d | Stored i ↦ slice_index_or t.now.values.now i d ]) }
 {
-    if own {
-        &t.own[spot..spot + 1]
-    } else {
-        &t.values[i..i + 1]
+    match shown {
+        Shown::Own(k) => &t.own[k..k + 1],
+        Shown::Stored(i) => &t.values[i..i + 1],
     }
 }
 
 // The value that a read tells.
-fn told<V: Copy>(t: &Tables<'_, V>, own: bool, spot: usize, i: usize) -> V
-    requires { (spot < length t.now.own.now) × (i < length t.now.values.now) }
-    ensures { (d : V) → result ≡ (if own then slice_index_or t.now.own.now spot d else slice_index_or t.now.values.now i d) }
+fn told<V: Copy>(t: &Tables<'_, V>, shown: Shown) -> V
+    requires { elim shown [ Own k ↦ k < length t.now.own.now | Stored i ↦ i < length t.now.values.now ] }
+    ensures { (d : V) → result ≡ (elim shown [ Own k ↦ slice_index_or t.now.own.now k d | Stored i ↦ slice_index_or t.now.values.now i d ]) }
 {
-    look_up(t, own, spot, i)[0]
+    look_up(t, shown)[0]
 }
 
 // Tells the job's own value where it has written the cell. Else tells the cell's value: it is now read first-hand, and
@@ -52,19 +59,14 @@ pub fn read<V: Copy, C: Chooser>(
     let k = spot(head.sizes, known, at);
     let i = at.number - 1;
     if is_written(t.flags[k]) {
-        return Ok(Answer::Told(told(t, true, k, i)));
+        return Ok(Answer::Told(told(t, Shown::Own(k))));
     }
     let job = record_of(t, known);
-    let low = job.low.0.max(t.written[i]);
-    if job.high.0 - 2 < low {
+    let low = job.low.max(Place(t.written[i]));
+    if job.high.0 - 2 < low.0 {
         return Err(Refusal::Stale(abandon_job(head, t, chooser, known)));
     }
-    t.jobs[known.number - 1] = JobRecord {
-        standing: job.standing,
-        job: job.job,
-        low: Place(low),
-        high: job.high,
-    };
+    t.jobs[known.number - 1] = JobRecord { low, ..job };
     t.flags[k] = with_read(t.flags[k]);
-    Ok(Answer::Told(told(t, false, k, i)))
+    Ok(Answer::Told(told(t, Shown::Stored(i))))
 }

@@ -1,5 +1,4 @@
-ghost use Rattle.std.specs.Prelude.{◌≡◌, []};
-ghost use Rattle.choosers.specs.Meaning.{moved_on};
+ghost use Rattle.std.specs.Prelude.{◌≡◌};
 ghost use Rattle.rules.specs.Contents.{Same};
 ghost use Rattle.rules.specs.Registers.{register_of};
 ghost use Rattle.commits.specs.Committing.{MayCommit, CommittedAt};
@@ -9,19 +8,11 @@ use crate::storing::{set_written_places, store_values};
 use admission::looking::record_of;
 use admission::numbered::Crew;
 use choosers::chooser::Chooser;
-use endings::ending::end_job;
+use endings::ending::{end_job, entry_of};
 use rules::head::Started;
 use rules::tables::Tables;
-use terms::numbers::{CrewNumber, Place};
-use terms::records::{Ending, Entry};
-
-// The place of a commit: the one that the chooser gives between the bounds.
-fn commit_place<C: Chooser>(chooser: &mut C, low: Place, high: Place) -> Place
-    ensures gave { result.0 ≡ C.Chooser.meaning chooser.old [] low.0 high.0 }
-    ensures moved { C.Chooser.meaning chooser.new ≡ moved_on (C.Chooser.meaning chooser.old) low.0 high.0 }
-{
-    chooser.choose(low, high)
-}
+use terms::numbers::Place;
+use terms::records::Ending;
 
 // Commits a crew's job at the place that the chooser gives between the low bound and the job's high, and answers the place.
 pub fn commit_job<V: Copy, C: Chooser>(
@@ -35,16 +26,10 @@ pub fn commit_job<V: Copy, C: Chooser>(
     ensures committed { MayCommit {V = V} (register_of V head.old t.old) crew.number low.0 → (d : V) → CommittedAt {V = V} d (register_of V head.old t.old) (C.Chooser.meaning chooser.old) crew.number result.0 (register_of V head.new t.new) (C.Chooser.meaning chooser.new) }
 {
     let job = record_of(t, crew);
-    let place = commit_place(chooser, low, job.high);
+    let place = chooser.choose(low, job.high);
     store_values(head, t, crew);
     set_written_places(head, t, crew, place);
     lower_highs(head, t, crew, place);
-    let last = Entry {
-        job: job.job,
-        crew: CrewNumber(crew.number as u64),
-        place,
-        ending: Ending::Committed,
-    };
-    end_job(head, t, crew, last);
+    end_job(head, t, crew, entry_of(job, crew, place, Ending::Committed));
     place
 }

@@ -1,3 +1,2 @@
 pub mod Turns
-pub mod Shifts
-pub mod Ended
+mod Inserting

@@ -1,5 +1,6 @@
 -- A loop that changes one table of a register element by element.
-use Rattle.std.proofs.Common.{◌≡◌, ℕ, suc, ◌+◌, Bool, false, cond, List, length, get_or, set, sym, ap, ◌∙◌, add-one, arith}
+use Rattle.std.proofs.Common.{◌≡◌, ℕ, suc, ◌+◌, Bool, true, false, cond, List, length, get_or, set, sym, ap, ◌∙◌, add-one, arith}
+use Rattle.std.proofs.lemmas.Bool.{cond-true}
 use Rattle.std.proofs.lemmas.List.{set-get_or}
 use Rattle.rules.specs.Tables.{each}
 use Rattle.rules.specs.Registers.{Register}
@@ -16,6 +17,13 @@ module _ {V A : Type 0} (W : Register V → List A → Register V) (G : Register
   pub turn_all : i ≡ length (G r) → a ≡ W r (each (f r) (G r))
   turn_all e = inv ∙ ap (W r) (ap (λ (k : ℕ). upto (one_more (f r) d) k (G r)) e ∙ all_turns (f r) d (G r))
 
--- a turn that changes nothing
-pub kept : {A B : Type 0} (W : List A → B) (b : Bool) (xs : List A) (i : ℕ) (v d : A) → b ≡ false → W xs ≡ W (set xs i (cond b v (get_or xs i d)))
-kept W b xs i v d e = ap W (sym (rw e (set-get_or xs i d)))
+-- a turn that changes its element under a test of the number, where the test holds and where it does not
+module _ {A B : Type 0} (W : List A → B) (test : ℕ → Bool) (i : ℕ) (b : Bool) (told : b ≡ test (i + 1)) (xs : List A) (v d : A) where
+  tested : test (suc i) ≡ b
+  tested = ap test (sym (add-one i)) ∙ sym told
+
+  pub changed : b ≡ true → W (set xs i v) ≡ W (set xs i (cond (test (suc i)) v (get_or xs i d)))
+  changed e = ap (λ (x : A). W (set xs i x)) (sym (cond-true (test (suc i)) v (get_or xs i d) (tested ∙ e)))
+
+  pub kept : b ≡ false → W xs ≡ W (set xs i (cond (test (suc i)) v (get_or xs i d)))
+  kept e = ap W (sym (rw (tested ∙ e) (set-get_or xs i d)))

@@ -13,11 +13,8 @@ pub fn clear_row(flags: &mut [u8], from: usize, count: usize)
     ensures past { length flags.old < from + count → flags.new ≡ flags.old }
     ensures cleared { from + count ≤ length flags.old → flags.new ≡ take from flags.old ++ (replicate count 0 ++ drop (from + count) flags.old) }
 {
-    if flags.len() < from || flags.len() - from < count {
-        return;
-    }
-    for i in 0..count {
-        flags[from + i] = 0;
+    if from <= flags.len() && count <= flags.len() - from {
+        flags[from..from + count].fill(0);
     }
 }
 
@@ -36,7 +33,7 @@ pub fn count_ended(head: &mut Started, place: Place)
     ensures { started_of head.new ≡ (if nat_lt place.0 top && nat_lt 0 head.old.active then ended_head (started_of head.old) place.0 else started_of head.old) }
 {
     if place.0 < 1 << 62 && 0 < head.active {
-        head.highest = Place(head.highest.0.max(place.0));
+        head.highest = head.highest.max(place);
         head.ended += 1;
         head.active -= 1;
     }

@@ -16,6 +16,19 @@ use rules::tables::Tables;
 use terms::numbers::{CrewNumber, Place};
 use terms::records::{Ending, Entry, JobRecord};
 
+// The entry of a crew's job, which ended at the place.
+pub fn entry_of(job: JobRecord, crew: Crew, place: Place, ending: Ending) -> Entry
+    ensures names { (result.job ≡ job.job) × (result.crew.0 ≡ crew.number) }
+    ensures ended { (result.place ≡ place) × (result.ending ≡ ending) }
+{
+    Entry {
+        job: job.job,
+        crew: CrewNumber(crew.number as u64),
+        place,
+        ending,
+    }
+}
+
 // What every ending of a crew's job does, with the entry that goes into the book.
 pub fn end_job<V>(head: &mut Started, t: &mut Tables<'_, V>, crew: Crew, last: Entry)
     ensures same { Same V t.new t.old }
@@ -42,12 +55,6 @@ pub fn abandon_job<V, C: Chooser>(
 {
     let job = record_of(t, crew);
     let place = chooser.choose(job.low, job.high);
-    let last = Entry {
-        job: job.job,
-        crew: CrewNumber(crew.number as u64),
-        place,
-        ending: Ending::Abandoned,
-    };
-    end_job(head, t, crew, last);
+    end_job(head, t, crew, entry_of(job, crew, place, Ending::Abandoned));
     place
 }

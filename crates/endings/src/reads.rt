@@ -1,8 +1,8 @@
-ghost use Rattle.std.specs.Prelude.{◌≡◌, suc, ◌<◌, length, slice_index, slice_set};
+ghost use Rattle.std.specs.Prelude.{◌≡◌};
 ghost use Rattle.rules.specs.Contents.{Same};
 ghost use Rattle.rules.specs.JobCalls.{raised_reads};
 ghost use Rattle.rules.specs.Registers.{register_of};
-ghost use Rattle.endings.specs.Endings.{with_reads, raised_read};
+ghost use Rattle.endings.specs.Endings.{with_reads};
 
 use admission::looking::has_read;
 use admission::numbered::Crew;
@@ -10,27 +10,14 @@ use rules::head::Started;
 use rules::tables::Tables;
 use terms::numbers::Place;
 
-// Raises one read place, that of the cell `i`, counted from 0.
-fn raise_read<V>(head: &Started, t: &mut Tables<'_, V>, crew: Crew, place: Place, i: usize)
-    requires { i < length t.old.read.now }
-    ensures same { Same V t.new t.old }
-    ensures step { register_of V head.now t.new ≡ with_reads {V = V} (register_of V head.now t.old)
-        (slice_set t.old.read.now i (raised_read {V = V} crew.number place.0 (register_of V head.now t.old) (suc i) (slice_index t.old.read.now i))) }
-{
-    let old = t.read[i];
-    t.read[i] = if has_read(head, t, crew, i) {
-        old.max(place.0)
-    } else {
-        old
-    };
-}
-
 // The read place of each cell that the crew's job has read first-hand is raised to the job's place at least.
 pub fn raise_reads<V>(head: &Started, t: &mut Tables<'_, V>, crew: Crew, place: Place)
     ensures same { Same V t.new t.old }
     ensures step { register_of V head.now t.new ≡ with_reads {V = V} (register_of V head.now t.old) (raised_reads {V = V} (register_of V head.now t.old) crew.number place.0) }
 {
     for i in 0..t.read.len() {
-        raise_read(head, t, crew, place, i);
+        if has_read(head, t, crew, i) {
+            t.read[i] = t.read[i].max(place.0);
+        }
     }
 }

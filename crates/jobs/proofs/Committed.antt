@@ -1,5 +1,5 @@
 -- The two endings of a commit that no test refuses.
-use Rattle.std.proofs.Common.{◌≡◌, ℕ, ◌+◌, ◌-◌, ◌<◌, ◌≤◌, Bool, true, false, cond, ltb, [], Some, None, Ok, Err, Option, sym, ap, ◌∙◌, subst, arith}
+use Rattle.std.proofs.Common.{◌≡◌, ℕ, ◌+◌, ◌<◌, ◌≤◌, Bool, true, false, cond, ltb, [], Some, None, Ok, Err, Option, sym, ap, ◌∙◌, subst}
 use Rattle.std.proofs.lemmas.Bool.{lt-ltb, le-ltb}
 use Rattle.terms.specs.declared.numbers.Place.{Place}
 use Rattle.terms.specs.declared.numbers.CrewNumber.{CrewNumber}
@@ -40,9 +40,3 @@ module _ {V : Type 0} (d : V) (r r' : Register V) (f f' : Meaning) (crew : CrewN
     asks = g.asks ∙ sym (ap (λ (x : Outcome V). moved_if f x.asked) o);
     enters = subst (λ (x : Option Entry). Entered r.head.ended x r.tables.book r'.tables.book) (ap (λ (q : ℕ). Some (entry_of r crew.0 q Committed)) g.place ∙ sym (ap (λ (x : Outcome V). x.entry) o)) g.enters;
   }
-
-pub no_room_lem : (h l x y : ℕ) → x ≡ h → y ≡ l → x - 2 < y → h < l + 2
-no_room_lem h l x y p q r = omega arith
-
-pub room : (h l x y : ℕ) → x ≡ h → y ≡ l → y ≤ x - 2 → 2 ≤ h → l + 2 ≤ h
-room h l x y p q r s = omega arith

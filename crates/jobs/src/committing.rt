@@ -28,7 +28,7 @@ pub fn commit<V: Copy, C: Chooser>(
     let admitted = admit(head, t, crew)?;
     let high = record_of(t, admitted).high.0;
     let low = commit_low(head, t, admitted);
-    if ((high - 2) as u128) < low {
+    if u128::from(high - 2) < low {
         return Err(Refusal::NoPlace(abandon_job(head, t, chooser, admitted)));
     }
     Ok(Answer::Ended(commit_job(head, t, chooser, admitted, Place(low as u64))))

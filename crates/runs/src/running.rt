@@ -42,11 +42,7 @@ pub fn start_and_run<V: Copy, C: Chooser>(
     ensures calls { calls_of list.new ≡ calls_of list.old }
     ensures kept { elim result [ Ok started ↦ ((start_outcome {V = V} (filling_of head) (contents_of V t.old)).answer ≡ Ok (fresh_head (dimensions_of head.sizes))) × ((d : V) → PromiseFromStart d (started_register {V = V} (filling_of head) (contents_of V t.old)) (C.Chooser.meaning chooser.old) (log_of list.new) (register_of V started t.new) (C.Chooser.meaning chooser.new)) | Err refused ↦ ((start_outcome {V = V} (filling_of head) (contents_of V t.old)).answer ≡ Err (filling_of refused.0, refused.1)) × (refused.0 ≡ head) × (contents_of V t.new ≡ contents_of V t.old) × (list.new ≡ list.old) × (chooser.new ≡ chooser.old) ] }
 {
-    match start(head, t) {
-        Ok(mut started) => {
-            run(&mut started, t, chooser, list);
-            Ok(started)
-        }
-        Err(refused) => Err(refused),
-    }
+    let mut started = start(head, t)?;
+    run(&mut started, t, chooser, list);
+    Ok(started)
 }

@@ -1,7 +1,12 @@
+use Rattle.std.proofs.Common.{◌+◌, ◌∙◌, rules, tests, arith}
+use Rattle.std.proofs.lemmas.Iterator.{YieldsList-from_range, YieldsList-from_map}
 use Rattle.rules.specs.Registers.{register_of}
 use Rattle.bounds.specs.Bounds.{reader_bound}
-use Rattle.bounds.proofs.Looping.{most_more}
+use Rattle.bounds.proofs.Looping.{most_from_max}
 use Rattle.bounds.proofs.readers.readers_bound.Goals as goal
 
-pub loop-i-preserved : goal.loop-i-preserved
-loop-i-preserved g c = most_more (reader_bound (register_of _ c.args.head.now c.args.t.now) c.args.crew.number) c.loop-i.i _ _ _ c.loop-i.invariant c.reader_bound.ensures c.larger_bound-bound.ensures
+pub returns : goal.returns
+returns g c =
+    let f = reader_bound (register_of _ c.args.head.now c.args.t.now) c.args.crew.number in
+    let n = c.args.head.now.sizes.crews in
+    c.unwrap_or.ensures ∙ most_from_max f n c.map.result c.max.result c.max.ensures.ran (YieldsList-from_map _ (λ i. f (i + 1)) (YieldsList-from_range 0 n n c.map.ensures.source (omega arith)) c.map.ensures.closure (λ x b q k. search (rules, tests)))

@@ -3,37 +3,31 @@ use Rattle.rules.specs.Registers.{high_of, register_of}
 use Rattle.rules.specs.JobCalls.{commit_low}
 use Rattle.endings.specs.Endings.{AbandonedAt}
 use Rattle.commits.specs.Committing.{CommittedAt}
-use Rattle.jobs.proofs.Committed.{commit_abandons, commit_stores, no_room_lem, room}
+use Rattle.jobs.proofs.Committed.{commit_abandons, commit_stores}
 use Rattle.jobs.proofs.committing.commit.Goals as goal
 
-pub returns-then-high-low : goal.returns-then-high-low
-returns-then-high-low g c = record {
-  same = c.abandon_job.ensures.same;
-  performed = λ d.
-      let r = register_of _ c.args.head.now c.args.t.now in
-      let r' = register_of _ c.abandon_job.new.head c.abandon_job.new.t in
-      let f = g.C.Chooser.meaning c.args.chooser.now in
-      let f' = g.C.Chooser.meaning c.abandon_job.new.chooser in
-      let w = c.in_ok-admitted.admitted.number in
-      let known = c.in_ok-admitted.ensures.admitted in
-      let full : high_of r w < commit_low r w + 2 = no_room_lem (high_of r w) (commit_low r w) _ _ (ap (λ j. j.high.0) c.record_of-high.ensures) c.commit_low-low.ensures c.if-high-low.true in
-      commit_abandons d r r' f f' c.args.crew c.abandon_job.result c.in_ok-admitted.ensures.answer
-      (subst (λ (n : ℕ). high_of r n < commit_low r n + 2) known.0 full)
-      (subst (λ (n : ℕ). AbandonedAt r f n c.abandon_job.result.0 r' f') known.0 (c.abandon_job.ensures.abandoned known.1));
-}
+pub returns-then-from-low-clause-performed : goal.returns-then-from-low-clause-performed
+returns-then-from-low-clause-performed g c = λ d.
+    let r = register_of _ c.args.head.now c.args.t.now in
+    let r' = register_of _ c.abandon_job.new.head c.abandon_job.new.t in
+    let f = g.C.Chooser.meaning c.args.chooser.now in
+    let f' = g.C.Chooser.meaning c.abandon_job.new.chooser in
+    let w = c.in_ok-admitted.admitted.number in
+    let known = c.in_ok-admitted.ensures.admitted in
+    let full : high_of r w < commit_low r w + 2 = omega (arith, ap (λ j. j.high.0) c.record_of-high.ensures, c.commit_low-low.ensures, c.from.ensures, c.if-from-low.true) in
+    commit_abandons d r r' f f' c.args.crew c.abandon_job.result c.in_ok-admitted.ensures.answer
+    (subst (λ (n : ℕ). high_of r n < commit_low r n + 2) known.0 full)
+    (subst (λ (n : ℕ). AbandonedAt r f n c.abandon_job.result.0 r' f') known.0 (c.abandon_job.ensures.abandoned known.1))
 
-pub returns : goal.returns
-returns g c = record {
-  same = c.commit_job.ensures.same;
-  performed = λ d.
-      let r = register_of _ c.args.head.now c.args.t.now in
-      let r' = register_of _ c.commit_job.new.head c.commit_job.new.t in
-      let f = g.C.Chooser.meaning c.args.chooser.now in
-      let f' = g.C.Chooser.meaning c.commit_job.new.chooser in
-      let w = c.in_ok-admitted.admitted.number in
-      let known = c.in_ok-admitted.ensures.admitted in
-      let place-left : commit_low r w + 2 ≤ high_of r w = room (high_of r w) (commit_low r w) _ _ (ap (λ j. j.high.0) c.record_of-high.ensures) c.commit_low-low.ensures c.if-high-low.false (omega (arith, known.1.room)) in
-      commit_stores d r r' f f' c.args.crew c.commit_job.result c.in_ok-admitted.ensures.answer
-      (subst (λ (n : ℕ). commit_low r n + 2 ≤ high_of r n) known.0 place-left)
-      (subst (λ (n : ℕ). CommittedAt d r f n c.commit_job.result.0 r' f') known.0 (c.commit_job.ensures.committed (record { goes_on = known.1; bound = c.commit_low-low.ensures; room = omega (arith, c.commit_low-low.ensures, place-left) }) d));
-}
+pub returns-clause-performed : goal.returns-clause-performed
+returns-clause-performed g c = λ d.
+    let r = register_of _ c.args.head.now c.args.t.now in
+    let r' = register_of _ c.commit_job.new.head c.commit_job.new.t in
+    let f = g.C.Chooser.meaning c.args.chooser.now in
+    let f' = g.C.Chooser.meaning c.commit_job.new.chooser in
+    let w = c.in_ok-admitted.admitted.number in
+    let known = c.in_ok-admitted.ensures.admitted in
+    let place-left : commit_low r w + 2 ≤ high_of r w = omega (arith, ap (λ j. j.high.0) c.record_of-high.ensures, c.commit_low-low.ensures, c.from.ensures, c.if-from-low.false, known.1.room) in
+    commit_stores d r r' f f' c.args.crew c.commit_job.result c.in_ok-admitted.ensures.answer
+    (subst (λ (n : ℕ). commit_low r n + 2 ≤ high_of r n) known.0 place-left)
+    (subst (λ (n : ℕ). CommittedAt d r f n c.commit_job.result.0 r' f') known.0 (c.commit_job.ensures.committed (record { goes_on = known.1; bound = c.commit_low-low.ensures; room = omega (arith, c.commit_low-low.ensures, place-left) }) d))

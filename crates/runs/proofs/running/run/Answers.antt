@@ -1,15 +1,14 @@
-use Rattle.std.proofs.Common.{◌≡◌, ◌<◌, List, length, get_or, take, sym, refl, ap, ◌∙◌, subst, arith}
+use Rattle.std.proofs.Common.{◌≡◌, ◌<◌, List, length, get_or, take, sym, refl, ap, ◌∙◌, subst, arith, rules}
 use Rattle.std.proofs.lemmas.List.{take_all}
 use Rattle.rules.specs.Registers.{register_of}
 use Rattle.rules.specs.Runs.{Step, Performed}
-use Rattle.rules.proofs.Lending.{same_none, same_then}
 use Rattle.guarantee.proofs.Promise.{promise_is_kept}
 use Rattle.runs.specs.Logs.{log_of}
 use Rattle.runs.proofs.Logs.{log_more, calls_stay}
 use Rattle.runs.proofs.running.run.Goals as goal
 
 pub loop-exchange-init : goal.loop-exchange-init
-loop-exchange-init g c = (λ d. Performed.starts, same_none _ _, refl)
+loop-exchange-init g c = (λ d. Performed.starts, search rules, refl)
 
 pub loop-exchange-preserved : goal.loop-exchange-preserved
 loop-exchange-preserved g c =
@@ -22,18 +21,13 @@ loop-exchange-preserved g c =
           let P : List (Step g.row.V.Denot) → Type 0 = λ l. Performed d (register_of _ c.args.head.now c.args.t.now) (g.C.Chooser.meaning c.args.chooser.now) l
           (register_of _ c.perform-exchange.new.head c.perform-exchange.new.t) (g.C.Chooser.meaning c.perform-exchange.new.chooser) in
           subst P (sym log) (Performed.then (c.loop-exchange.invariant.0 d) (c.perform-exchange.ensures.performed d)),
-      same_then _ _ _ _ c.loop-exchange.invariant.1 c.perform-exchange.ensures.same,
+      search rules,
       stay ∙ c.loop-exchange.invariant.2,
     )
 
-pub returns : goal.returns
-returns g c =
+pub returns-clause-promise : goal.returns-clause-promise
+returns-clause-promise g c = λ d.
     let all : log_of (take c.loop-exchange.exchange-index c.loop-exchange.list) ≡ log_of c.loop-exchange.list = ap log_of (take_all c.loop-exchange.exchange-index c.loop-exchange.list (omega (arith, c.loop-exchange.auto.list))) in
-    record {
-      same = c.loop-exchange.invariant.1;
-      calls = c.loop-exchange.invariant.2;
-      promise = λ d.
-          let P : List (Step g.row.V.Denot) → Type 0 = λ l. Performed d (register_of _ c.args.head.now c.args.t.now) (g.C.Chooser.meaning c.args.chooser.now) l
-          (register_of _ c.loop-exchange.head c.loop-exchange.t) (g.C.Chooser.meaning c.loop-exchange.chooser) in
-          promise_is_kept _ d _ _ _ _ _ (g.C.Chooser.lawful c.args.chooser.now) (subst P all (c.loop-exchange.invariant.0 d));
-    }
+    let P : List (Step g.row.V.Denot) → Type 0 = λ l. Performed d (register_of _ c.args.head.now c.args.t.now) (g.C.Chooser.meaning c.args.chooser.now) l
+    (register_of _ c.loop-exchange.head c.loop-exchange.t) (g.C.Chooser.meaning c.loop-exchange.chooser) in
+    promise_is_kept _ d _ _ _ _ _ (g.C.Chooser.lawful c.args.chooser.now) (subst P all (c.loop-exchange.invariant.0 d))
