@@ -15,7 +15,6 @@ use Rattle.stages.specs.declared.head_line.HeadLine.{HeadLine}
 use Rattle.stages.specs.ChooserLines.{read_chooser}
 use Rattle.stages.specs.Stages.{bad_shape, shape_of, moved_on, taken_or}
 use Rattle.schedule.specs.Accounts.{Lines, bad_next, at_line, wrong_letter, bad_line, fits, goes_on, wanted, at_calls, at_chooser, at_head, of_kind}
-use Rattle.schedule.specs.Reading.{let_go}
 
 ---- The text's lines
 
@@ -92,6 +91,11 @@ wanted_read {A} k stage width read next xs l ls s e h r =
     ∙ ap (λ (o : Option BadField). goes_on k (fits o (read l)) (λ a. next a ls)) h
     ∙ goes_on_ended k (read l) (λ a. next a ls)
     ∙ ap (λ (q : Result A BadLine). ended q (λ a. next a ls)) (sym r)
+
+-- what was read is let go
+abbrev pub let_go : {A : Type 0} → Result A BadField → Result (Unit {0}) BadField
+let_go (Ok a) = Ok tt
+let_go (Err bad) = Err bad
 
 goes_on_unread : {A : Type 0} (k : ℕ) (o : Option BadField) (r : Result A BadField) (next : Lines) → goes_on k (fits o (let_go r)) (λ _. next) ≡ goes_on k (fits o r) (λ _. next)
 goes_on_unread k (Some bad) r next = refl

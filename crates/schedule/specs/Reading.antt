@@ -19,8 +19,3 @@ went_on (Err bad) next = bad_line bad
 -- line k was read as a stage reads it that wants it
 abbrev pub ReadsWanted : {A : Type 0} → (List ℕ → Result A BadField → Type 0) → ℕ → Stage → ℕ → Lines → Result (A × Bor (List ℕ)) BadLine → Type 0
 ReadsWanted {A} gives k stage width ls r = (wants : List ℕ → Result A BadField) → Reads gives wants → (next : A → Lines → Lines) → wanted k stage width wants next ls ≡ went_on r next
-
--- what was read is let go
-abbrev pub let_go : {A : Type 0} → Result A BadField → Result (Unit {0}) BadField
-let_go (Ok a) = Ok tt
-let_go (Err bad) = Err bad

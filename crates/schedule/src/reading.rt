@@ -3,10 +3,9 @@ ghost use Rattle.std.specs.Fn.{FnOnceReturnsAt};
 ghost use Rattle.text.specs.Split.{lines_of};
 ghost use Rattle.stages.specs.declared.stage.Stage.TheVariants.{Cells};
 ghost use Rattle.stages.specs.Stages.{bad_shape, shape_of, moved_on};
-ghost use Rattle.stages.specs.ChooserLines.{read_chooser};
 ghost use Rattle.schedule.specs.Accounts.{bad_next, bad_line, at_head, of_kind};
 ghost use Rattle.schedule.specs.Ranges.{InRange};
-ghost use Rattle.schedule.specs.Reading.{ReadsWanted, let_go};
+ghost use Rattle.schedule.specs.Reading.{ReadsWanted};
 
 use stages::chooser_line::read_chooser;
 use stages::head_line::{HeadLine, read_head};

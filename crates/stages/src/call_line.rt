@@ -1,6 +1,5 @@
 ghost use Rattle.std.specs.Prelude.{◌≡◌};
-ghost use Rattle.stages.specs.CallLines.{read_call, read_of, write_of};
-ghost use Rattle.stages.specs.HeadLines.{without_fields};
+ghost use Rattle.stages.specs.CallLines.{read_call};
 
 use crate::stage::{letter_of, read_number};
 use rules::calls::Call;

@@ -1,4 +1,4 @@
-ghost use Rattle.std.specs.Prelude.{◌≡◌, ℕ, ◌≤◌, true, false, [], length, drop};
+ghost use Rattle.std.specs.Prelude.{◌≡◌, length, drop};
 ghost use Rattle.text.specs.Split.{field_count};
 ghost use Rattle.stages.specs.HeadLines.{without_fields};
 ghost use Rattle.stages.specs.ChooserLines.{stride_in, stride_of, numbers_in, numbers_of, read_chooser, choice_of};

@@ -6,8 +6,7 @@ use Rattle.stages.specs.ChooserLines.{read_chooser}
 use Rattle.stages.specs.Stages.{moved_on}
 use Rattle.text.specs.Split.{lines_of}
 use Rattle.schedule.specs.Accounts.{at_chooser, of_kind}
-use Rattle.schedule.specs.Reading.{let_go}
-use Rattle.schedule.proofs.Nexts.{opened}
+use Rattle.schedule.proofs.Nexts.{let_go, opened}
 use Rattle.schedule.proofs.HeadRanges.{head_in_range}
 use Rattle.schedule.proofs.reading.read_opening.Goals as goal
 
