@@ -28,11 +28,11 @@ pub fn write_answer<K: Kind>(
 }
 
 // Writes a line for the answer of each of a run's exchanges, until one finds no room.
-pub fn write_answers<K: Kind>(
-    paper: &mut Paper<'_>,
-    list: &[Exchange<K>],
-) -> Result<(), Refusal>
+pub fn write_answers<K: Kind>(paper: &mut Paper<'_>, list: &[Exchange<K>]) -> Result<(), Refusal>
     ensures { LinesWritten (map (λ e. answer_line K.form e.answer) list.now) paper.old result paper.new }
 {
-    paper.write_each(list, |paper, exchange| write_answer(paper, &exchange.answer))
+    paper.write_each(
+        list,
+        |paper, exchange| write_answer(paper, &exchange.answer),
+    )
 }

@@ -1,44 +1,30 @@
 -- Pieces, lines and lists of lines on a lent paper.
-use Rattle.std.proofs.Common.{◌≡◌, ℕ, ◌+◌, ◌<◌, ◌≤◌, true, cond, List, [], ◌∷◌, ◌++◌, map, length, get_or, take, drop, is_err, Some, Ok, Err, Result, sym, refl, ap, ◌∙◌, subst, nat_le, arith}
+use Rattle.std.proofs.Common.{◌≡◌, ℕ, ◌+◌, ◌<◌, ◌≤◌, true, cond, List, [], ◌∷◌, ◌++◌, map, length, get_or, take, drop, is_err, Some, Ok, Err, Result, sym, refl, ap, ◌∙◌, subst, nat_le}
 use Rattle.std.proofs.lemmas.List.{map-append, map_more, take-append-drop, take_all}
-use Rattle.std.proofs.lemmas.Bool.{leb-true}
-use borrow.Rule.Slice.PartMut.{put_mid}
 use Rattle.terms.specs.declared.refusals.Refusal.{Refusal}
 use Rattle.output.specs.declared.paper.Paper.{Paper}
 use Rattle.output.specs.Laid.{laid}
 use Rattle.output.specs.Lines.{stop_line}
 use Rattle.output.specs.Papers.{WrittenAll, printed}
 use Rattle.output.specs.Lent.{SameBytes, PieceWritten, LineWritten, LinesWritten, taken_back}
-use Rattle.output.proofs.Writing.{laid_by_copy, length_laid}
-use Rattle.output.proofs.Pieces.{fits, writes_ok, writes_none, writes_then, writes_stop}
-use Rattle.output.proofs.Papers.{paper_added, paper_full, none_written, one_more_written, rest_unwritten, written_as, stopped}
+use Rattle.output.proofs.Pieces.{writes_ok, writes_none, writes_then, writes_stop}
+use Rattle.output.proofs.Papers.{paper_added, paper_full, one_more_written, rest_unwritten, written_as, stopped}
 
 same_refl : (p : Paper) → SameBytes p p
 same_refl p = record { lends = refl; size = refl }
 
-pub same_then : (p q p' : Paper) → SameBytes q p → SameBytes p' q → SameBytes p' p
+same_then : (p q p' : Paper) → SameBytes q p → SameBytes p' q → SameBytes p' p
 same_then p q p' a b = record { lends = b.lends ∙ a.lends; size = b.size ∙ a.size }
 
 ---- Pieces of a line
 
 -- a copy that has room for it
-pub piece_copied : (ps : List ℕ) (p p' : Paper) (k : ℕ) (ys : List ℕ) → nat_le (p.count.used + length ps + 64) (length p.bytes.now) ≡ true → ys ≡ ps → k ≡ length ps
-    → p'.count.used ≡ p.count.used + length ps → p'.bytes.now ≡ put_mid p.count.used k p.bytes.now ys → p'.bytes.ghost_name ≡ p.bytes.ghost_name
-    → PieceWritten ps p (Ok tt) p'
-piece_copied ps p p' k ys t e h u b l =
-    let room = leb-true (p.count.used + length ps + 64) (length p.bytes.now) t in
-    let text = b ∙ laid_by_copy p.bytes.now p.count.used k ys ps e h in
-    record {
-      written = writes_ok p.count.used p.bytes.now ps p'.count.used p'.bytes.now room u text;
-      same = record { lends = l; size = ap length text ∙ length_laid p.bytes.now p.count.used ps (omega (arith, room)) };
-    }
+pub piece_copied : (ps : List ℕ) (p p' : Paper) → p.count.used + length ps + 64 ≤ length p.bytes.now → p'.bytes.now ≡ laid p.bytes.now p.count.used ps → p'.count.used ≡ p.count.used + length ps
+    → SameBytes p' p → PieceWritten ps p (Ok tt) p'
+piece_copied ps p p' h t u s = record { written = writes_ok p.count.used p.bytes.now ps p'.count.used p'.bytes.now h u t; same = s }
 
 pub piece_none : (p : Paper) → p.count.used + 64 ≤ length p.bytes.now → PieceWritten [] p (Ok tt) p
 piece_none p h = record { written = writes_none p.count.used p.bytes.now h; same = same_refl p }
-
--- after a piece that stands the reserve is there
-pub piece_reserve : (ps : List ℕ) (p p' : Paper) → PieceWritten ps p (Ok tt) p' → p'.count.used + 64 ≤ length p'.bytes.now
-piece_reserve ps p p' a = omega (arith, fits _ _ _ _ _ a.written, a.written.used refl, a.same.size)
 
 -- the bytes by another name
 pub piece_as : (ps qs : List ℕ) (p : Paper) (r : Result (Unit {0}) Refusal) (p' : Paper) → ps ≡ qs → PieceWritten ps p r p' → PieceWritten qs p r p'
@@ -70,9 +56,6 @@ line_goes_back line p q e p' a h =
     })
 
 ---- A line for each item of a list
-
-pub none_lines : (p : Paper) → LinesWritten [] p (Ok tt) p
-none_lines p = record { written = none_written p.count p.bytes.now; same = same_refl p }
 
 -- one item more
 pub next_line : {V : Type 0} (line : V → List ℕ) (vs : List V) (i : ℕ) (v : V) (p q : Paper) (r : Result (Unit {0}) Refusal) (p' : Paper) → i < length vs → v ≡ get_or vs i v

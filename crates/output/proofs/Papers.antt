@@ -43,9 +43,6 @@ pub added_append : (size : ℕ) (ls ms : List (List ℕ)) (p : Paper) → added_
 added_append size [] ms p = refl
 added_append size (l ∷ ls) ms p = added_append size ls ms (added size l p)
 
-pub none_written : (c : Count) (out : List ℕ) → WrittenAll [] c out (Ok tt) c out
-none_written c out = record { answer = refl; text = refl; reserve = λ h. h }
-
 -- what is answered, by whether the paper was full
 answer_of_lem : (r : Result (Unit {0}) Refusal) (b : Bool) (p : Paper) → r ≡ answered b → p.full ≡ is_err r → r ≡ answered (not p.full)
 answer_of_lem r true p e f = e ∙ ap (λ (x : Bool). answered (not x)) (sym (f ∙ ap is_err e))
@@ -72,10 +69,6 @@ one_more_written ls l c out d mid r c' out' a e w =
       text = whole;
       reserve = λ h. still_free d.used (length l) (length out) c'.used r _ refl (w.answer ∙ ap (λ (n : ℕ). answered (leb (d.used + length l + 64) n)) e) w.used (a.reserve h);
     }
-
--- one line alone
-pub one_written : (l : List ℕ) (c : Count) (out : List ℕ) (r : Result (Unit {0}) Refusal) (c' : Count) (out' : List ℕ) → Written l c out r c' out' → WrittenAll (l ∷ []) c out r c' out'
-one_written l c out r c' out' w = one_more_written [] l c out c out r c' out' (none_written c out) refl w
 
 -- lines that come after one that found no room are not written
 pub rest_unwritten : (ls ms : List (List ℕ)) (c : Count) (out : List ℕ) (r : Result (Unit {0}) Refusal) (c' : Count) (out' : List ℕ) → is_err r ≡ true

@@ -3,8 +3,8 @@ ghost use Rattle.output.specs.Lent.{taken_back};
 
 use crate::paper::Paper;
 
-// A line that is being written on a paper, until it is finished with where the count of used bytes goes back to. At its
-// end the count goes back there, unless the line was finished.
+// A line that is being written on a paper, and where the count of used bytes goes back to when the line ends: nowhere,
+// once the line is finished.
 pub(crate) struct Line<'p, 'a> {
     pub paper: &'p mut Paper<'a>,
     pub back_to: Option<usize>,

@@ -65,11 +65,8 @@ impl Paper<'_> {
         ensures used { self.new.count.used ≡ cond (nat_le (self.old.count.used + 3) (length self.old.bytes.now)) (self.old.count.used + 3) self.old.count.used }
         ensures same { SameBytes self.new self.old }
     {
-        let at = self.count.used;
-        if self.bytes.len() < 3 || at > self.bytes.len() - 3 {
-            return;
+        if self.bytes.len().saturating_sub(self.count.used) >= 3 {
+            self.copy(b"12\n");
         }
-        self.bytes[at..at + 3].copy_from_slice(b"12\n");
-        self.count.used = at + 3;
     }
 }

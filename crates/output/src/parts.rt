@@ -1,31 +1,43 @@
 ghost use Rattle.std.specs.Prelude.{◌≡◌, ◌+◌, ◌≤◌, ◌∷◌, length, decimal, nat_le};
 ghost use Rattle.values.specs.Forms.{after_commas};
-ghost use Rattle.output.specs.Lent.{PieceWritten};
+ghost use Rattle.output.specs.Laid.{laid};
+ghost use Rattle.output.specs.Lent.{SameBytes, PieceWritten};
 
 use crate::paper::Paper;
 use itoa::Buffer;
 use terms::refusals::Refusal;
 
-// Whether 64 bytes of the paper remain after so many more.
-fn has_room(used: usize, more: usize, paper: usize) -> bool
-    ensures { result ≡ nat_le (used + more + 64) paper }
-{
-    used <= paper && more <= paper - used && 64 <= paper - used - more
-}
-
 // The parts of a line. Each is written after the used bytes, if 64 bytes of the paper remain after it.
 impl Paper<'_> {
+    // Whether 64 bytes of the paper remain after so many more.
+    fn has_room(&self, more: usize) -> bool
+        ensures { result ≡ nat_le (self.now.count.used + more + 64) (length self.now.bytes.now) }
+    {
+        let free = self.bytes.len().saturating_sub(self.count.used);
+        free.saturating_sub(more) >= 64
+    }
+
+    // Copies bytes to after the used ones, where they fit.
+    pub(crate) fn copy(&mut self, bytes: &[u8])
+        requires { self.old.count.used + length bytes.now ≤ length self.old.bytes.now }
+        ensures text { self.new.bytes.now ≡ laid self.old.bytes.now self.old.count.used bytes.now }
+        ensures used { self.new.count.used ≡ self.old.count.used + length bytes.now }
+        ensures same { SameBytes self.new self.old }
+    {
+        let used = self.count.used;
+        let end = used + bytes.len();
+        self.bytes[used..end].copy_from_slice(bytes);
+        self.count.used = end;
+    }
+
     // Writes bytes.
     pub(crate) fn put(&mut self, bytes: &[u8]) -> Result<(), Refusal>
         ensures { PieceWritten bytes.now self.old result self.new }
     {
-        let used = self.count.used;
-        if !has_room(used, bytes.len(), self.bytes.len()) {
+        if !self.has_room(bytes.len()) {
             return Err(Refusal::PaperFull);
         }
-        let end = used + bytes.len();
-        self.bytes[used..end].copy_from_slice(bytes);
-        self.count.used = end;
+        self.copy(bytes);
         Ok(())
     }
 

@@ -63,21 +63,13 @@ const NO_ENTRY: Entry = Entry {
     ending: Ending::Committed,
 };
 
-// How many rows a table has that goes by crew and then by cell.
-fn rows_of(crews: usize, cells: usize) -> usize
-    requires { (crews ≤ 8) × (cells ≤ 64) }
-    ensures rows { result ≡ crews * cells }
-    ensures most { result ≤ 512 }
-{
-    crews * cells
-}
-
 // The front of each table, as long as a register of these sizes wants it.
 fn cut<K>(memory: Tables<'_, K>, sizes: Sizes) -> Tables<'_, K>
-    requires { (((sizes.cells ≤ 64) × (sizes.crews ≤ 8)) × (sizes.entries ≤ 256)) × ((64 ≤ length memory.values.now) × (64 ≤ length memory.written.now) × (64 ≤ length memory.read.now) × (8 ≤ length memory.jobs.now) × (512 ≤ length memory.own.now) × (512 ≤ length memory.flags.now) × (256 ≤ length memory.book.now)) }
+    requires smaller { (sizes.cells ≤ 64) × (sizes.crews ≤ 8) × (sizes.entries ≤ 256) }
+    requires largest { Fits {V = K} (record { cells = 64; crews = 8; entries = 256 }) (contents_of K memory) }
     ensures { Fits {V = K} (dimensions_of sizes) (contents_of K result) }
 {
-    let rows = rows_of(sizes.crews, sizes.cells);
+    let rows = sizes.crews * sizes.cells;
     let Tables {
         values,
         written,
