@@ -1,7 +1,6 @@
 -- The lines for the answers of job calls and for the day book.
 use Rattle.std.specs.Prelude.{ℕ, List, [], ◌∷◌, Some, None, Ok, Err, Result}
-use Rattle.terms.specs.declared.records.Ending.{Ending}
-use Rattle.terms.specs.declared.records.Ending.TheVariants.{Committed, Abandoned}
+use Rattle.terms.specs.Records.{ending_letter}
 use Rattle.terms.specs.declared.records.Entry.{Entry}
 use Rattle.terms.specs.declared.refusals.Refusal.{Refusal}
 use Rattle.values.specs.Forms.{Form}
@@ -21,11 +20,6 @@ numbers_told form (Ended place) = place.0 ∷ []
 abbrev pub answer_line : {V : Type 0} → Form V → Result (Answer V) Refusal → List ℕ
 answer_line form (Ok answer) = line_of (Letter 43) (numbers_told form answer) None
 answer_line form (Err e) = refusal_line e
-
--- C for a job that committed, A for one that was abandoned
-abbrev pub ending_letter : Ending → ℕ
-ending_letter Committed = 67
-ending_letter Abandoned = 65
 
 -- an entry of the day book: B, the job, its crew, its place, and the letter of its ending
 abbrev pub entry_line : Entry → List ℕ

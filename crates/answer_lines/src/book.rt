@@ -1,32 +1,18 @@
 ghost use Rattle.std.specs.Prelude.{◌≡◌, map};
 ghost use Rattle.output.specs.Lent.{LineWritten, LinesWritten};
-ghost use Rattle.answer_lines.specs.Answers.{ending_letter, entry_line};
+ghost use Rattle.answer_lines.specs.Answers.{entry_line};
 
 use output::lines::Lead;
 use output::paper::Paper;
-use terms::records::{Ending, Entry};
+use terms::records::Entry;
 use terms::refusals::Refusal;
-
-// The letter for how a job ended.
-fn ending_letter(ending: Ending) -> u8
-    ensures { result ≡ ending_letter ending }
-{
-    match ending {
-        Ending::Committed => b'C',
-        Ending::Abandoned => b'A',
-    }
-}
 
 // Writes the line of an entry of the day book: `B`, the job, its crew, its place, and how it ended.
 pub fn write_entry(paper: &mut Paper<'_>, entry: &Entry) -> Result<(), Refusal>
     ensures { LineWritten (entry_line entry.now) paper.old result paper.new }
 {
     let numbers = [entry.job.0, entry.crew.0, entry.place.0];
-    paper.write_line(
-        Lead::Letter(b'B'),
-        &numbers,
-        Some(ending_letter(entry.ending)),
-    )
+    paper.write_line(Lead::Letter(b'B'), &numbers, Some(entry.ending.letter()))
 }
 
 // Writes a line for each entry of the day book, until one finds no room.

@@ -123,13 +123,10 @@ fn account_by_stride<K: Sample>(
     seed: u32,
     step: u64,
 ) -> io::Result<()> {
-    match Stride::new(step) {
-        Ok(stride) => {
-            let mut chooser = stride;
-            account::<K, Stride>(rt, title, seed, &mut chooser)
-        }
-        Err(_) => println!(rt; "no such stride"),
-    }
+    let Ok(mut chooser) = Stride::new(step) else {
+        return println!(rt; "no such stride");
+    };
+    account::<K, Stride>(rt, title, seed, &mut chooser)
 }
 
 fn main(rt: HostRuntime) -> io::Result<()> {

@@ -1,7 +1,7 @@
 use rules::calls::{Answer, Call};
 use runs::exchange::Exchange;
 use std::io;
-use terms::records::{Ending, Entry};
+use terms::records::Entry;
 use terms::refusals::Refusal;
 use values::kinds::Kind;
 
@@ -87,10 +87,7 @@ pub(crate) fn print_cells<K: Kind>(rt: &HostRuntime, values: &[K]) -> io::Result
 pub(crate) fn print_book(rt: &HostRuntime, book: &[Entry], ended: usize) -> io::Result<()> {
     for entry in book.iter().take(ended) {
         let (job, crew, place) = (entry.job.0, entry.crew.0, entry.place.0);
-        let ending = match entry.ending {
-            Ending::Committed => 'C',
-            Ending::Abandoned => 'A',
-        };
+        let ending = char::from(entry.ending.letter());
         println!(rt; "B,{job},{crew},{place},{ending}")?;
     }
     Ok(())

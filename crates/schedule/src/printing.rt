@@ -16,7 +16,7 @@ use rules::tables::Tables;
 use stages::head_line::{HeadLine, KindName};
 use stages::stage::Reader;
 use terms::numbers::{CrewNumber, JobNumber, Place};
-use terms::records::{Ending, Entry, JobRecord, Standing};
+use terms::records::{Ending, Entry, JobRecord};
 use terms::refusals::Refusal;
 use values::kinds::Kind;
 use values::records::{Card, Dial};
@@ -43,18 +43,8 @@ fn sizes_of(head: HeadLine) -> Sizes
     requires { InRange head }
     ensures { (result.cells ≡ head.cells) × (result.crews ≡ head.crews) × (result.entries ≡ head.entries) }
 {
-    match Sizes::new(head.cells, head.crews, head.entries) {
-        Ok(sizes) => sizes,
-        Err(_) => unreachable(),
-    }
+    Sizes::new(head.cells, head.crews, head.entries).unwrap()
 }
-
-const NO_JOB: JobRecord = JobRecord {
-    standing: Standing::Closed,
-    job: JobNumber(0),
-    low: Place(0),
-    high: Place(0),
-};
 
 const NO_ENTRY: Entry = Entry {
     job: JobNumber(0),
@@ -93,15 +83,14 @@ fn cut<K>(memory: Tables<'_, K>, sizes: Sizes) -> Tables<'_, K>
 // Lays out the tables for the largest register of a schedule, 8 crews and 256 entries over 64 cells, takes the front of
 // each as long as this register wants it, and prints what its lines make of it.
 fn print_kind<K: Kind>(opening: Opening<'_>, paper: &mut Paper<'_>) -> Result<(), Refusal>
-    requires small { 512 * type_size K.row < 2 ^ 63 }
-    requires opened { (InRange opening.head) × (opening.reader ≡ record { stage = Cells; left = opening.head.cells; width = 0 }) }
+    requires { 512 * type_size K.row < 2 ^ 63 }
     ensures { LinesWritten (at_cells K.form opening.entry.head.cells 3 [] (lines_of opening.entry.rest.now)) paper.old result paper.new }
 {
     let sizes = sizes_of(opening.head);
     let mut values = [K::blank(); 64];
     let mut written = [0; 64];
     let mut read = [0; 64];
-    let mut jobs = [NO_JOB; 8];
+    let mut jobs = [JobRecord::closed(); 8];
     let mut own = [K::blank(); 512];
     let mut flags = [0; 512];
     let mut book = [NO_ENTRY; 256];
@@ -122,7 +111,6 @@ fn print_kind<K: Kind>(opening: Opening<'_>, paper: &mut Paper<'_>) -> Result<()
 
 // Prints the account of a schedule whose first two lines were read.
 pub(crate) fn print_opened(opening: Opening<'_>, paper: &mut Paper<'_>) -> Result<(), Refusal>
-    requires { (InRange opening.head) × (opening.reader ≡ record { stage = Cells; left = opening.head.cells; width = 0 }) }
     ensures { LinesWritten (of_kind opening.entry.head.kind opening.entry.head.cells (lines_of opening.entry.rest.now)) paper.old result paper.new }
 {
     match opening.head.kind {
