@@ -1,6 +1,7 @@
 -- The day book against the history: it names just the ended jobs, in ascending places.
 use Rattle.std.proofs.Common.{◌≡◌, ℕ, suc, Bool, true, false, cond, eqb, ◌⊎◌, List, [], ◌∷◌, ◌++◌, is_some, Some, None, sym, refl, ap, ◌∙◌, inl, inr, arith}
 use Rattle.std.proofs.lemmas.Bool.{eqb-true, eq-eqb, ne_eqb, both_ways}
+use Rattle.std.proofs.lemmas.Option.{none-some}
 use Rattle.terms.specs.declared.records.Ending.TheVariants.{Abandoned, Committed}
 use Rattle.terms.specs.declared.records.Entry.{Entry}
 use Rattle.history.specs.Events.{History, Operation, by_jobs, crew_of, ends_at, open_job, openings}
@@ -10,7 +11,7 @@ use Rattle.history.specs.Precedence.{In}
 use Rattle.history.specs.Projections.{end_place, is_committed, projection}
 use Rattle.history.specs.WellMade.{WellMade}
 use Rattle.history.proofs.Crews.{crew_of_open_job, open_job_active, openings_by_job, well_formed}
-use Rattle.history.proofs.Moments.{active_uncommitted, none_some, unopened_projection}
+use Rattle.history.proofs.Moments.{active_uncommitted, unopened_projection}
 use Rattle.history.proofs.Rows.{Distinct, in_cases, in_nil}
 use Rattle.history.proofs.Tracking.{active_unplaced}
 use Rattle.rules.specs.Performing.{All, Ascending, NotAbove}
@@ -64,7 +65,7 @@ module _ {V : Type 0} where
 
   module _ (run : History V) (w : ℕ) (d : Operation V V ℕ) (wm : WellMade (by w d ∷ run)) where
     not_acting : (y p : ℕ) → end_place (projection (by_jobs run) y) ≡ Some p → acting run w d ≡ y → ⊥
-    not_acting y p e q = none_some p (sym (acting_none run w d wm) ∙ (ap (λ (x : ℕ). end_place (projection (by_jobs run) x)) q ∙ e))
+    not_acting y p e q = none-some p (sym (acting_none run w d wm) ∙ (ap (λ (x : ℕ). end_place (projection (by_jobs run) x)) q ∙ e))
 
     projection_still : (y p : ℕ) → end_place (projection (by_jobs run) y) ≡ Some p → projection (by_jobs (by w d ∷ run)) y ≡ projection (by_jobs run) y
     projection_still y p e = projection_is run w d y ∙ rw (ne_eqb (acting run w d) y (not_acting y p e))
@@ -92,8 +93,8 @@ module _ {V : Type 0} where
   ending_plain opens q s true = refl
   ending_plain (reads c v) q s true = refl
   ending_plain (writes c v) q s true = refl
-  ending_plain (commits p) q s true = none_some p (sym q)
-  ending_plain (abandons p) q s true = none_some p (sym q)
+  ending_plain (commits p) q s true = absurd (none-some p (sym q))
+  ending_plain (abandons p) q s true = absurd (none-some p (sym q))
 
   pub booked_plain : (run : History V) (w : ℕ) (d : Operation V V ℕ) → WellMade (by w d ∷ run) → ends_at d ≡ None → (es : List Entry) → Booked run es → Booked (by w d ∷ run) es
   booked_plain run w d wm q es k = record {

@@ -1,6 +1,7 @@
 -- Where places for the jobs rise along precedence, the register accepts every call at them: the low bound of each open job stays below its place, and the high one above.
 use Rattle.std.proofs.Common.{◌≡◌, ℕ, zero, suc, ◌+◌, ◌<◌, ◌≤◌, min, max, Bool, true, false, cond, ◌&&◌, eqb, leb, ◌⊎◌, [], ◌∷◌, None, sym, refl, ap, ◌∙◌, subst, ap₂, inl, inr, arith}
 use Rattle.std.proofs.lemmas.Bool.{eqb-true, eqb-false, both_ways, leb-true, leb-false, and_parts, or_cases}
+use Rattle.std.proofs.lemmas.Option.{none-some}
 use Rattle.history.specs.Events.{Operation, Event, Events, History, is_opening, openings, open_job, by_jobs}
 use Rattle.history.specs.Events.Operation.{opens, reads, writes, commits, abandons}
 use Rattle.history.specs.Events.Event.{by}
@@ -12,7 +13,7 @@ use Rattle.history.specs.WellMade.{WellMade, Calls, InRange}
 use Rattle.history.specs.Views.{RegisterView, fresh_view, conflicts, Accepts, updated, view_after}
 use Rattle.history.specs.Views.ViewRun.{starts, goes_on}
 use Rattle.history.specs.Acceptance.{AcceptedAt, positions}
-use Rattle.history.proofs.Moments.{none_some, precedes_later, read_later, committed_later, unopened_projection}
+use Rattle.history.proofs.Moments.{precedes_later, read_later, committed_later, unopened_projection}
 use Rattle.history.proofs.Tracking.{ended_place, active_unplaced}
 use Rattle.history.proofs.Crews.{openings_by_job, openings_tail, one_crew, open_job_active, well_formed}
 use Rattle.history.proofs.Viewing.{ViewFacts, flag_when_written, written_when_flag, RunFacts, run_facts}
@@ -56,7 +57,7 @@ module _ {V : Type 0} where
 
   -- who has ended is not who is open, nor who has yet to open
   ended_other : (h : History V) (x y : ℕ) → end_place (projection h x) ≡ None → Ended h y → y ≡ x → ⊥
-  ended_other h x y o e q = let k = ended_place h y e in none_some k.0 (sym o ∙ (sym (ap (λ z. end_place (projection h z)) q) ∙ k.1))
+  ended_other h x y o e q = let k = ended_place h y e in none-some k.0 (sym o ∙ (sym (ap (λ z. end_place (projection h z)) q) ∙ k.1))
 
 -- a number that is 0, or the place of one of those jobs
 abbrev Mark : (ℕ → ℕ) → (ℕ → Type 0) → ℕ → Type 0

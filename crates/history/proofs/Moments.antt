@@ -1,6 +1,7 @@
 -- What a projection says of the history: from a job's own operations to the moments at which they occur.
 use Rattle.std.proofs.Common.{◌≡◌, ℕ, zero, suc, ◌<◌, ◌≤◌, Bool, true, false, cond, eqb, ◌⊎◌, List, [], ◌∷◌, Some, None, Option, sym, refl, ap, ◌∙◌, subst, inl, inr, arith}
 use Rattle.std.proofs.lemmas.Bool.{eqb-true, eq-eqb, ne_eqb, both_ways}
+use Rattle.std.proofs.lemmas.Option.{none-some}
 use native.Mathlib.Decide.{dec_le}
 use Rattle.history.specs.Events.{Operation, Event, Events, History, openings}
 use Rattle.history.specs.Events.Operation.{opens, reads, writes, commits, abandons}
@@ -11,8 +12,6 @@ use Rattle.history.specs.Precedence.Extends.{here, later}
 use Rattle.history.specs.Precedence.Precedes.{real_time, committed_read, read_committed, committed_committed}
 use Rattle.history.proofs.ShortForm.{installs}
 
-pub none_some : {V : Type 0} {A : Type 0} (v : V) → ◌≡◌ {A = Option V} None (Some v) → A
-none_some v e = let z : ◌≡◌ {A = ℕ} 0 1 = cc in absurd (omega arith)
 
 pub occurs_here : {V : Type 0} (h : History V) (d : Operation V V ℕ) (y x : ℕ) → y ≡ x → Occurs (by y d ∷ h) x d h
 occurs_here h d y x e = subst (λ z. Extends (by y d ∷ h) (by z d ∷ h)) e here
@@ -48,7 +47,7 @@ module _ {V : Type 0} where
   wrote_step y x c h (abandons p) true v e ih q = wrote_later (by y (abandons p)) (ih v q)
 
   pub buffered_wrote : (h : History V) (x c : ℕ) (v : V) → buffered (projection h x) c ≡ Some v → Wrote h x c
-  buffered_wrote [] x c v q = none_some v q
+  buffered_wrote [] x c v q = absurd (none-some v q)
   buffered_wrote (by y d ∷ h) x c v q = wrote_step y x c h d (eqb y x) v refl (buffered_wrote h x c) q
 
   -- what was written is buffered
@@ -75,7 +74,7 @@ module _ {V : Type 0} where
 
   pub unbuffered_unwritten : (h : History V) (x c : ℕ) → buffered (projection h x) c ≡ None → Wrote h x c → ⊥
   unfolding IsBuffered
-  unbuffered_unwritten h x c q w = let k = buffered_when_written x c w.value w.before h w.occurs in none_some k.0 (sym q ∙ k.1)
+  unbuffered_unwritten h x c q w = let k = buffered_when_written x c w.value w.before h w.occurs in none-some k.0 (sym q ∙ k.1)
 
   -- a job that has not opened has an empty projection
   active_numbered : (h : History V) (y : ℕ) → ((x : ℕ) → openings h < x → projection h x ≡ []) → is_active (projection h y) ≡ true → (x : ℕ) → openings h < x → (y ≡ x → ⊥)
@@ -117,12 +116,12 @@ module _ {V : Type 0} where
   installs_step y x c h d false v e wf ih q = committed_later (by y d) (ih v q)
   installs_step y x c h opens true v e wf ih q = committed_later (by y opens) (ih v q)
   installs_step y x c h (reads k w) true v e wf ih q = committed_later (by y (reads k w)) (ih v q)
-  installs_step y x c h (writes k w) true v e wf ih q = none_some v (rw (active_uncommitted h wf.1 x (rw (eqb-true y x e) at wf.0)) at q)
+  installs_step y x c h (writes k w) true v e wf ih q = absurd (none-some v (rw (active_uncommitted h wf.1 x (rw (eqb-true y x e) at wf.0)) at q))
   installs_step y x c h (commits p) true v e wf ih q = record { place = p; before = h; occurs = occurs_here h (commits p) y x (eqb-true y x e); wrote = buffered_wrote h x c v q }
   installs_step y x c h (abandons p) true v e wf ih q = committed_later (by y (abandons p)) (ih v q)
 
   pub installed_committed : (h : History V) → WellFormed h → (x c : ℕ) (v : V) → installs (projection h x) c ≡ Some v → CommittedCell h x c
-  installed_committed [] wf x c v q = none_some v q
+  installed_committed [] wf x c v q = absurd (none-some v q)
   installed_committed (by y d ∷ h) wf x c v q = installs_step y x c h d (eqb y x) v refl wf (installed_committed h (well_formed_tail (by y d) h wf) x c) q
 
   -- a job's first-hand reads

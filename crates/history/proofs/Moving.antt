@@ -1,6 +1,7 @@
 -- A call moves the bounds of jobs as it moves those of crews.
 use Rattle.std.proofs.Common.{◌≡◌, ℕ, suc, ◌+◌, ◌<◌, ◌≤◌, Bool, true, false, cond, eqb, List, ◌∷◌, Some, None, Option, sym, refl, ap, ◌∙◌, subst, arith}
 use Rattle.std.proofs.lemmas.Bool.{eqb-true, eqb-false, eq-eqb, ne_eqb}
+use Rattle.std.proofs.lemmas.Option.{none-some}
 use Rattle.history.specs.Events.{Operation, History, openings, open_job, by_jobs, crew_of}
 use Rattle.history.specs.Events.Operation.{opens, reads, writes, commits, abandons}
 use Rattle.history.specs.Events.Event.{by}
@@ -8,7 +9,7 @@ use Rattle.history.specs.Projections.{projection, is_active, end_place}
 use Rattle.history.specs.Precedence.{ReadGlobally}
 use Rattle.history.specs.WellMade.{WellMade}
 use Rattle.history.specs.Bounds.{Bounds, bounds_by_job, Narrows, OwnBounds, CrewMoves}
-use Rattle.history.proofs.Moments.{none_some, unopened_projection}
+use Rattle.history.proofs.Moments.{unopened_projection}
 use Rattle.history.proofs.JobBounds.{ClosesIn, Moves}
 use Rattle.history.proofs.Tracking.{active_unplaced, reader_active}
 use Rattle.history.proofs.Crews.{openings_by_job, open_job_active, well_formed, crew_of_open_job, active_positive, active_has_crew}
@@ -161,6 +162,6 @@ module _ {V : Type 0} (top : ℕ) (run : History V) (b : Bounds) (w : ℕ) (b' :
     highest_up = cm.highest_up;
     written_up = cm.written_up;
     read_up = cm.read_up;
-    ends = λ p e. none_some p e;
+    ends = λ p e. absurd (none-some p e);
     sees_to = rw (eq-eqb (suc (openings run)) (suc (openings run)) refl) cm.own.0;
   }

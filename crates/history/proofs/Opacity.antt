@@ -1,5 +1,6 @@
 -- Bounds that move as they should agree with the history at every moment, so that a run is opaque.
 use Rattle.std.proofs.Common.{ℕ, suc, ◌≤◌, cond, List, [], ◌∷◌, arith}
+use Rattle.std.proofs.lemmas.Option.{none-some}
 use Rattle.history.specs.Events.{Operation, History, is_opening, openings, open_job, by_jobs}
 use Rattle.history.specs.Events.Operation.{opens, reads, writes, commits, abandons}
 use Rattle.history.specs.Events.Event.{by}
@@ -11,7 +12,7 @@ use Rattle.history.specs.Precedence.Precedes.{real_time, committed_read, read_co
 use Rattle.history.specs.SerialExecution.{SeriallyExplained, Opaque}
 use Rattle.history.specs.WellMade.{WellMade}
 use Rattle.history.specs.Bounds.{Bounds, Tracked, bounds_by_job, CrewMoves, CrewRun}
-use Rattle.history.proofs.Moments.{none_some, well_formed_tail}
+use Rattle.history.proofs.Moments.{well_formed_tail}
 use Rattle.history.proofs.Ordering.{places_give_order}
 use Rattle.history.proofs.JobBounds.{BoundsRun}
 use Rattle.history.proofs.JobBounds.BoundsRun.{starts, goes_on}
@@ -31,9 +32,9 @@ nothing_precedes (committed_committed s n e) = extends_nothing s
 pub tracked : {V : Type 0} (top : ℕ) {h : History V} {b : Bounds} → 2 ≤ top → WellFormed h → BoundsRun top h b → Tracked h b
 tracked top t wf starts = record {
   placed = record { apart = λ x y ne k. absurd (nothing_precedes k); room = λ x e. omega arith };
-  below_highest = λ x p e. none_some p e;
-  below_written = λ x c p k e. none_some p e;
-  below_read = λ x c p k e. none_some p e;
+  below_highest = λ x p e. absurd (none-some p e);
+  below_written = λ x c p k e. absurd (none-some p e);
+  below_read = λ x c p k e. absurd (none-some p e);
 }
 tracked top t wf (goes_on {h = h} {b = b} {x = x} {o = d} {b' = b'} r m) = tracked_step h b x d b' wf (tracked top t (well_formed_tail (by x d) h wf) r) m
 

@@ -1,6 +1,7 @@
 -- One more call that moves the bounds as it should keeps them in agreement with the history.
 use Rattle.std.proofs.Common.{◌≡◌, ℕ, ◌<◌, ◌≤◌, Bool, true, false, cond, eqb, ◌⊎◌, List, [], ◌∷◌, Some, None, Option, sym, refl, ap, ◌∙◌, subst, inl, inr, arith}
 use Rattle.std.proofs.lemmas.Bool.{eqb-true, eq-eqb, ne_eqb, both_ways}
+use Rattle.std.proofs.lemmas.Option.{none-some}
 use Rattle.history.specs.Events.{Operation, Event, History, ends_at}
 use Rattle.history.specs.Events.Operation.{opens, reads, writes, commits, abandons}
 use Rattle.history.specs.Events.Event.{by}
@@ -9,7 +10,7 @@ use Rattle.history.specs.Precedence.{Extends, Occurs, Wrote, ReadGlobally, Commi
 use Rattle.history.specs.Precedence.Extends.{here, later}
 use Rattle.history.specs.Precedence.Precedes.{real_time, committed_read, read_committed, committed_committed}
 use Rattle.history.specs.Bounds.{PlacedApart, Bounds, Tracked}
-use Rattle.history.proofs.Moments.{none_some, unopened_projection, well_formed_tail}
+use Rattle.history.proofs.Moments.{unopened_projection, well_formed_tail}
 use Rattle.history.proofs.JobBounds.{ClosesIn, SeesTo, Moves}
 
 -- bounds that close in keep jobs apart
@@ -30,12 +31,12 @@ apart_later None None o' p' lx ux ly uy lx' ux' ly' uy' m n k = absurd k
 closes_back : (o o' : Option ℕ) (l u l' u' : ℕ) → ClosesIn o l u o' l' u' → (k p : ℕ) → o ≡ Some k → o' ≡ Some p → o ≡ Some p
 closes_back (Some a) (Some b) l u l' u' m k p e f = cc
 closes_back (Some a) None l u l' u' m k p e f = absurd m
-closes_back None o' l u l' u' m k p e f = none_some k e
+closes_back None o' l u l' u' m k p e f = absurd (none-some k e)
 
 closes_later : (o o' : Option ℕ) (l u l' u' : ℕ) → ClosesIn o l u o' l' u' → (p : ℕ) → o ≡ Some p → o' ≡ Some p
 closes_later (Some a) (Some b) l u l' u' m p e = cc
 closes_later (Some a) None l u l' u' m p e = absurd m
-closes_later None o' l u l' u' m p e = none_some p e
+closes_later None o' l u l' u' m p e = absurd (none-some p e)
 
 apart_some_none : (o r : Option ℕ) (lx ux ly uy p : ℕ) → o ≡ Some p → r ≡ None → p ≤ ly → PlacedApart o lx ux r ly uy
 apart_some_none o r lx ux ly uy p e f k = rw (e, f) k
@@ -148,10 +149,10 @@ module _ {V : Type 0} where
   -- whoever has a place since this event is the one whose event it is
   place_step : (h : History V) (x z p : ℕ) (d : Operation V V ℕ) (b : Bool) → eqb x z ≡ b → end_place (projection h z) ≡ None →
       end_place (cond b (d ∷ projection h z) (projection h z)) ≡ Some p → (x ≡ z) × (ends_at d ≡ Some p)
-  place_step h x z p d false e n q = none_some p (sym n ∙ q)
-  place_step h x z p opens true e n q = none_some p (sym n ∙ q)
-  place_step h x z p (reads c v) true e n q = none_some p (sym n ∙ q)
-  place_step h x z p (writes c v) true e n q = none_some p (sym n ∙ q)
+  place_step h x z p d false e n q = absurd (none-some p (sym n ∙ q))
+  place_step h x z p opens true e n q = absurd (none-some p (sym n ∙ q))
+  place_step h x z p (reads c v) true e n q = absurd (none-some p (sym n ∙ q))
+  place_step h x z p (writes c v) true e n q = absurd (none-some p (sym n ∙ q))
   place_step h x z p (commits k) true e n q = (eqb-true x z e, q)
   place_step h x z p (abandons k) true e n q = (eqb-true x z e, q)
 
@@ -204,17 +205,17 @@ module _ {V : Type 0} where
 
         go : (end_place (projection h z) ≡ Some p) ⊎ ((x ≡ z) × (ends_at d ≡ Some p)) → CommitsNow (by x d) h z c ⊎ CommittedCell h z c → p ≤ b'.written c
         go (inl e) (inr m) = omega (arith, tracked_before.below_written z c p m e, mv.written_up c)
-        go (inl e) (inl m) = none_some p (sym (acting_unplaced h x d wf) ∙ rw (commits_by h x z c d m) e)
+        go (inl e) (inl m) = absurd (none-some p (sym (acting_unplaced h x d wf) ∙ rw (commits_by h x z c d m) e))
         go (inr e) (inl m) = fresh_commit d e.1 m mv.sees_to
-        go (inr e) (inr m) = let k = committed_place h z c m in none_some k.0 (sym (acting_unplaced h x d wf) ∙ (rw e.0 k.1))
+        go (inr e) (inr m) = let k = committed_place h z c m in absurd (none-some k.0 (sym (acting_unplaced h x d wf) ∙ (rw e.0 k.1)))
 
     read_now : (z c p : ℕ) → ReadGlobally (by x d ∷ h) z c → end_place (projection (by x d ∷ h) z) ≡ Some p → p ≤ b'.read c
     read_now z c p k q = go (place_cases z p q) (read_cases z c (by x d) h k)
       where
         go : (end_place (projection h z) ≡ Some p) ⊎ ((x ≡ z) × (ends_at d ≡ Some p)) → ReadsNow (by x d) h z c ⊎ ReadGlobally h z c → p ≤ b'.read c
         go (inl e) (inr m) = omega (arith, tracked_before.below_read z c p m e, mv.read_up c)
-        go (inl e) (inl m) = none_some p (sym (acting_unplaced h x d wf) ∙ rw (reads_by h x z c d m).0 e)
-        go (inr e) (inl m) = none_some p (sym (reads_by h x z c d m).1 ∙ e.1)
+        go (inl e) (inl m) = absurd (none-some p (sym (acting_unplaced h x d wf) ∙ rw (reads_by h x z c d m).0 e))
+        go (inr e) (inl m) = absurd (none-some p (sym (reads_by h x z c d m).1 ∙ e.1))
         go (inr e) (inr m) = (mv.ends p e.1).1 c (rw e.0 m)
 
     abbrev ApartNow : ℕ → ℕ → Type 0
@@ -251,7 +252,7 @@ module _ {V : Type 0} where
           apart_none_some _ _ (b'.low y) (b'.high y) (b'.low x) (b'.high x) p (end_place_other h x y (commits p) (λ q. ne (sym q ∙ e)) ∙ f)
           (end_place_own h x (commits p)) ((mv.sees_to c w').3 y (λ q. ne (q ∙ e)) m f)
       go (inr m) (Some q) f = had_some h b x (commits p) b' wf tracked_before mv y q p f refl (omega (arith, tracked_before.below_written y c q m f, (mv.sees_to c w').0))
-      go (inr m) None f = let k = committed_place h y c m in none_some k.0 (sym f ∙ k.1)
+      go (inr m) None f = let k = committed_place h y c m in absurd (none-some k.0 (sym f ∙ k.1))
   now_apart h b x (abandons p) b' wf tracked_before mv y z ne m = absurd m
 
   pub tracked_step : (h : History V) (b : Bounds) (x : ℕ) (d : Operation V V ℕ) (b' : Bounds) → WellFormed (by x d ∷ h) → Tracked h b → Moves h b x d b' → Tracked (by x d ∷ h) b'
@@ -276,8 +277,8 @@ module _ {V : Type 0} where
   reader_step y x opens s true ih n = refl
   reader_step y x (reads c v) s true ih n = ih n
   reader_step y x (writes c v) s true ih n = ih n
-  reader_step y x (commits p) s true ih n = none_some p (sym n)
-  reader_step y x (abandons p) s true ih n = none_some p (sym n)
+  reader_step y x (commits p) s true ih n = absurd (none-some p (sym n))
+  reader_step y x (abandons p) s true ih n = absurd (none-some p (sym n))
 
   reader_occurs : (x c : ℕ) (v : V) (g h : History V) → Extends h (by x (reads c v) ∷ g) → WellFormed h → end_place (projection h x) ≡ None → is_active (projection h x) ≡ true
   reader_occurs x c v g h here wf n = rw (eq-eqb x x refl) wf.0

@@ -1,6 +1,7 @@
 -- A register that accepts calls as its view says moves its bounds as it should, and its view agrees with the run.
 use Rattle.std.proofs.Common.{◌≡◌, ℕ, zero, suc, ◌+◌, ◌<◌, ◌≤◌, min, max, Bool, true, false, cond, ◌&&◌, eqb, ◌⊎◌, List, [], ◌∷◌, Some, None, unwrap_or, sym, refl, ap, ◌∙◌, ap₂, inl, inr, arith}
 use Rattle.std.proofs.lemmas.Bool.{eqb-true, eqb-false, eq-eqb, ne_eqb, both_ways, and_from, or_left, or_right}
+use Rattle.std.proofs.lemmas.Option.{none-some}
 use Rattle.history.specs.Events.{Operation, Event, History, openings, open_job, by_jobs}
 use Rattle.history.specs.Events.Operation.{opens, reads, writes, commits, abandons}
 use Rattle.history.specs.Events.Event.{by}
@@ -12,16 +13,10 @@ use Rattle.history.specs.WellMade.{WellMade}
 use Rattle.history.specs.Bounds.{CrewMoves, CrewRun}
 use Rattle.history.specs.Views.{RegisterView, conflicts, Accepts, updated, view_after, ViewRun, bounds_of, ViewAgrees}
 use Rattle.history.specs.Views.ViewRun.{starts, goes_on}
-use Rattle.history.proofs.Moments.{none_some, buffered_wrote, unbuffered_unwritten, unopened_projection}
+use Rattle.history.proofs.Moments.{buffered_wrote, unbuffered_unwritten, unopened_projection}
 use Rattle.history.proofs.Tracking.{read_cases, reader_active}
 use Rattle.history.proofs.Crews.{openings_by_job, open_job_numbered, one_crew, well_formed}
 use Rattle.history.proofs.Opacity.{bounds_agree, bounds_opaque}
-
-updated_at : {A : Type 0} (f : ℕ → A) (k : ℕ) (v : A) → updated f k v k ≡ v
-updated_at f k v = rw (eq-eqb k k refl)
-
-updated_other : {A : Type 0} (f : ℕ → A) (k j : ℕ) (v : A) → (j ≡ k → ⊥) → updated f k v j ≡ f j
-updated_other f k j v n = rw (ne_eqb k j (λ e. n (sym e)))
 
 conflicts_from : {V : Type 0} (s : RegisterView V) (w u n c : ℕ) → 1 ≤ c → c ≤ n → s.has_read u c ≡ true → s.has_written w c ≡ true → conflicts s w u n ≡ true
 conflicts_from s w u zero c a b r k = absurd (omega arith)
@@ -96,7 +91,7 @@ module _ {V : Type 0} (top n : ℕ) (first : ℕ → V) (run : History V) (s : R
     highest_up = omega arith;
     written_up = λ c. omega arith;
     read_up = λ c. omega arith;
-    ends = λ p e. none_some p e;
+    ends = λ p e. absurd (none-some p e);
   }
   crew_moves w (reads c v) ac = record {
     own = rw (eq-eqb w w refl) (own_read w c v ac (s.has_written w c) refl);
@@ -104,7 +99,7 @@ module _ {V : Type 0} (top n : ℕ) (first : ℕ → V) (run : History V) (s : R
     highest_up = omega arith;
     written_up = λ c. omega arith;
     read_up = λ c. omega arith;
-    ends = λ p e. none_some p e;
+    ends = λ p e. absurd (none-some p e);
   }
   crew_moves w (writes c v) ac = record {
     own = (omega arith, omega arith, facts.room w (open_job_of w ac.0));
@@ -112,7 +107,7 @@ module _ {V : Type 0} (top n : ℕ) (first : ℕ → V) (run : History V) (s : R
     highest_up = omega arith;
     written_up = λ c. omega arith;
     read_up = λ c. omega arith;
-    ends = λ p e. none_some p e;
+    ends = λ p e. absurd (none-some p e);
   }
   crew_moves w (commits p) ac = record {
     own = (ac.1, ac.2, λ c wr. own_commit w p c ac wr);
