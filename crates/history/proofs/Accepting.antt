@@ -9,10 +9,10 @@ use Rattle.history.specs.Projections.{projection, end_place, WellFormed}
 use Rattle.history.specs.Precedence.{Occurs, Wrote, ReadGlobally, CommittedCell, Ended, Precedes}
 use Rattle.history.specs.Precedence.Extends.{here, later}
 use Rattle.history.specs.Precedence.Precedes.{real_time, committed_read, read_committed, committed_committed}
-use Rattle.history.specs.WellMade.{WellMade, Calls, InRange}
+use Rattle.history.specs.WellMade.{WellMade, Calls, InRange, asked}
 use Rattle.history.specs.Views.{RegisterView, fresh_view, conflicts, Accepts, updated, view_after}
 use Rattle.history.specs.Views.ViewRun.{starts, goes_on}
-use Rattle.history.specs.Acceptance.{AcceptedAt, positions}
+use Rattle.history.specs.Acceptance.{AcceptedAt, positions, places_of}
 use Rattle.history.proofs.Moments.{precedes_later, read_later, committed_later, unopened_projection}
 use Rattle.history.proofs.Tracking.{ended_place, active_unplaced}
 use Rattle.history.proofs.Crews.{openings_by_job, openings_tail, one_crew, open_job_active, well_formed}
@@ -323,6 +323,20 @@ module _ {V : Type 0} (top n m : ℕ) (first : ℕ → V) (own : ℕ → ℕ →
   has_open_job : {cs : Calls V} (g : AcceptedSoFar cs) (w : ℕ) → 1 ≤ open_job cs w → 1 ≤ open_job g.accepted.run w
   has_open_job g w a = rw (job_alike (alike g) w) a
 
+  -- and one more call, with the answer that d has
+  accepted_more : {cs : Calls V} (g : AcceptedSoFar cs) (w : ℕ) (d : Operation V V ℕ) → places_of (by w d ∷ g.accepted.run) ≡ positions at (by w (asked d) ∷ cs) →
+      Accepts top n g.accepted.view w d → PlacesFit at (by w d ∷ g.accepted.run) (view_after top n g.accepted.view w d) → AcceptedSoFar (by w (asked d) ∷ cs)
+  accepted_more g w d places ac fit = record {
+    accepted = record {
+      run = by w d ∷ g.accepted.run;
+      view = view_after top n g.accepted.view w d;
+      same_calls = ap (λ z. by w (asked d) ∷ z) g.accepted.same_calls;
+      same_places = places;
+      view_run = goes_on g.accepted.view_run ac;
+    };
+    fits = fit;
+  }
+
   accepted_so_far : (cs : Calls V) → WellMade cs → InRange n m cs → RisingPlaces top at cs → AcceptedSoFar cs
   accepted_so_far [] wm r f = record {
     accepted = record { run = []; view = fresh_view first own; same_calls = refl; same_places = refl; view_run = starts };
@@ -337,79 +351,35 @@ module _ {V : Type 0} (top n m : ℕ) (first : ℕ → V) (own : ℕ → ℕ →
   }
   accepted_so_far (by w opens ∷ cs) wm r f =
       let g = accepted_so_far cs wm.1 r.2 (rising_tail top at w opens cs f) in
+      let s = g.accepted.view in
       let j = job_alike (alike g) w ∙ wm.0 in
       let k = rising_alike top at (more open_open (alike_sym (alike g))) f in
-      record {
-        accepted = record {
-          run = by w opens ∷ g.accepted.run;
-          view = view_after top n g.accepted.view w opens;
-          same_calls = ap (λ z. by w opens ∷ z) g.accepted.same_calls;
-          same_places = g.accepted.same_places;
-          view_run = goes_on g.accepted.view_run (open_accepted top n first at g.accepted.run g.accepted.view (run_facts_of g) g.fits w j k);
-        };
-        fits = open_fits top n first at g.accepted.run g.accepted.view (run_facts_of g) g.fits w j k;
-      }
+      accepted_more g w opens g.accepted.same_places (open_accepted top n first at g.accepted.run s (run_facts_of g) g.fits w j k) (open_fits top n first at g.accepted.run s (run_facts_of g) g.fits w j k)
   accepted_so_far (by w (reads c t) ∷ cs) wm r f =
       let g = accepted_so_far cs wm.1 r.2 (rising_tail top at w (reads c t) cs f) in
       let s = g.accepted.view in
       let v = cond (s.has_written w c) (s.own w c) (s.value c) in
       let a = has_open_job g w wm.0 in
       let k = rising_alike top at (more read_read (alike_sym (alike g))) f in
-      record {
-        accepted = record {
-          run = by w (reads c v) ∷ g.accepted.run;
-          view = view_after top n s w (reads c v);
-          same_calls = ap (λ z. by w (reads c t) ∷ z) g.accepted.same_calls;
-          same_places = g.accepted.same_places;
-          view_run = goes_on g.accepted.view_run (read_accepted top n first at g.accepted.run s (run_facts_of g) g.fits w c v a refl k);
-        };
-        fits = read_fits top n first at g.accepted.run s (run_facts_of g) g.fits w c v a refl k;
-      }
+      accepted_more g w (reads c v) g.accepted.same_places (read_accepted top n first at g.accepted.run s (run_facts_of g) g.fits w c v a refl k) (read_fits top n first at g.accepted.run s (run_facts_of g) g.fits w c v a refl k)
   accepted_so_far (by w (writes c v) ∷ cs) wm r f =
       let g = accepted_so_far cs wm.1 r.2 (rising_tail top at w (writes c v) cs f) in
       let s = g.accepted.view in
       let a = has_open_job g w wm.0 in
-      record {
-        accepted = record {
-          run = by w (writes c v) ∷ g.accepted.run;
-          view = view_after top n s w (writes c v);
-          same_calls = ap (λ z. by w (writes c v) ∷ z) g.accepted.same_calls;
-          same_places = g.accepted.same_places;
-          view_run = goes_on g.accepted.view_run (write_accepted top n first at g.accepted.run s (run_facts_of g) g.fits w c v a r.1.0 r.1.1);
-        };
-        fits = write_fits top n first at g.accepted.run s (run_facts_of g) g.fits w c v a r.1.0 r.1.1;
-      }
+      accepted_more g w (writes c v) g.accepted.same_places (write_accepted top n first at g.accepted.run s (run_facts_of g) g.fits w c v a r.1.0 r.1.1) (write_fits top n first at g.accepted.run s (run_facts_of g) g.fits w c v a r.1.0 r.1.1)
   accepted_so_far (by w (commits t) ∷ cs) wm r f =
       let g = accepted_so_far cs wm.1 r.2 (rising_tail top at w (commits t) cs f) in
       let s = g.accepted.view in
-      let p = at (open_job g.accepted.run w) in
       let a = has_open_job g w wm.0 in
       let k = rising_alike top at (more commit_commit (alike_sym (alike g))) f in
-      record {
-        accepted = record {
-          run = by w (commits p) ∷ g.accepted.run;
-          view = view_after top n s w (commits p);
-          same_calls = ap (λ z. by w (commits t) ∷ z) g.accepted.same_calls;
-          same_places = ap₂ ◌∷◌ (ap at (job_alike (alike g) w)) g.accepted.same_places;
-          view_run = goes_on g.accepted.view_run (commit_accepted top n first at g.accepted.run s (run_facts_of g) g.fits w a k);
-        };
-        fits = commit_fits top n first at g.accepted.run s (run_facts_of g) g.fits w a k;
-      }
+      accepted_more g w (commits (at (open_job g.accepted.run w))) (ap₂ ◌∷◌ (ap at (job_alike (alike g) w)) g.accepted.same_places)
+      (commit_accepted top n first at g.accepted.run s (run_facts_of g) g.fits w a k) (commit_fits top n first at g.accepted.run s (run_facts_of g) g.fits w a k)
   accepted_so_far (by w (abandons t) ∷ cs) wm r f =
       let g = accepted_so_far cs wm.1 r.2 (rising_tail top at w (abandons t) cs f) in
       let s = g.accepted.view in
-      let p = at (open_job g.accepted.run w) in
       let a = has_open_job g w wm.0 in
-      record {
-        accepted = record {
-          run = by w (abandons p) ∷ g.accepted.run;
-          view = view_after top n s w (abandons p);
-          same_calls = ap (λ z. by w (abandons t) ∷ z) g.accepted.same_calls;
-          same_places = ap₂ ◌∷◌ (ap at (job_alike (alike g) w)) g.accepted.same_places;
-          view_run = goes_on g.accepted.view_run (abandon_accepted top n first at g.accepted.run s (run_facts_of g) g.fits w a);
-        };
-        fits = abandon_fits top n first at g.accepted.run s (run_facts_of g) g.fits w a;
-      }
+      accepted_more g w (abandons (at (open_job g.accepted.run w))) (ap₂ ◌∷◌ (ap at (job_alike (alike g) w)) g.accepted.same_places)
+      (abandon_accepted top n first at g.accepted.run s (run_facts_of g) g.fits w a) (abandon_fits top n first at g.accepted.run s (run_facts_of g) g.fits w a)
 
   pub rising_accepted : (cs : Calls V) → WellMade cs → InRange n m cs → RisingPlaces top at cs → AcceptedAt top n first own cs (positions at cs)
   rising_accepted cs wm r f = (accepted_so_far cs wm r f).accepted
