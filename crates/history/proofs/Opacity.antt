@@ -18,7 +18,7 @@ use Rattle.history.proofs.JobBounds.{BoundsRun}
 use Rattle.history.proofs.JobBounds.BoundsRun.{starts, goes_on}
 use Rattle.history.proofs.Tracking.{tracked_step}
 use Rattle.history.proofs.Crews.{well_made_tail, well_formed}
-use Rattle.history.proofs.Moving.{moves_read, moves_write, moves_commit, moves_abandon, moves_open}
+use Rattle.history.proofs.Moving.{moves}
 
 extends_nothing : {A : Type 0} {a : A} {g : List A} → Extends [] (a ∷ g) → ⊥
 extends_nothing s = elim s [ ]
@@ -38,17 +38,9 @@ tracked top t wf starts = record {
 }
 tracked top t wf (goes_on {h = h} {b = b} {x = x} {o = d} {b' = b'} r m) = tracked_step h b x d b' wf (tracked top t (well_formed_tail (by x d) h wf) r) m
 
-bounds_run_step : {V : Type 0} (top : ℕ) (run : History V) (b : Bounds) (w : ℕ) (d : Operation V V ℕ) (b' : Bounds) → 2 ≤ top → WellMade (by w d ∷ run) →
-    CrewMoves top run b w d b' → BoundsRun top (by_jobs run) (bounds_by_job top run b) → BoundsRun top (by_jobs (by w d ∷ run)) (bounds_by_job top (by w d ∷ run) b')
-bounds_run_step top run b w opens b' t wm m r = BoundsRun.goes_on r (moves_open top run b w b' t wm m)
-bounds_run_step top run b w (reads c v) b' t wm m r = BoundsRun.goes_on r (moves_read top run b w b' c v t wm m)
-bounds_run_step top run b w (writes c v) b' t wm m r = BoundsRun.goes_on r (moves_write top run b w b' c v t wm m)
-bounds_run_step top run b w (commits p) b' t wm m r = BoundsRun.goes_on r (moves_commit top run b w b' p t wm m)
-bounds_run_step top run b w (abandons p) b' t wm m r = BoundsRun.goes_on r (moves_abandon top run b w b' p t wm m)
-
 pub bounds_run : {V : Type 0} (top : ℕ) {run : History V} {b : Bounds} → CrewRun top run b → 2 ≤ top → WellMade run → BoundsRun top (by_jobs run) (bounds_by_job top run b)
 bounds_run top (CrewRun.starts l u) t wm = BoundsRun.starts
-bounds_run top (CrewRun.goes_on {run = run} {b = b} {w = w} {o = d} {b' = b'} r m) t wm = bounds_run_step top run b w d b' t wm m (bounds_run top r t (well_made_tail (by w d) run wm))
+bounds_run top (CrewRun.goes_on {run = run} {b = b} {w = w} {o = d} {b' = b'} r m) t wm = BoundsRun.goes_on (bounds_run top r t (well_made_tail (by w d) run wm)) (moves top run b w b' d t wm m)
 
 pub bounds_agree : {V : Type 0} (top : ℕ) (run : History V) (b : Bounds) → 2 ≤ top → WellMade run → CrewRun top run b → Tracked (by_jobs run) (bounds_by_job top run b)
 bounds_agree top run b t wm r = tracked top t (well_formed run wm) (bounds_run top r t wm)
