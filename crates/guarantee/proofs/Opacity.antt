@@ -18,7 +18,7 @@ use Rattle.history.specs.WellMade.{WellMade}
 use Rattle.history.proofs.Crews.{well_formed}
 use Rattle.history.proofs.Moments.{projection_zero, unopened_projection, well_formed_tail}
 use Rattle.history.proofs.Opacity.{bounds_run, tracked}
-use Rattle.history.proofs.Ordering.{Sorted, ascending_is_order, insert, insert_cases, insert_distinct, insert_in, insert_keeps, insert_sorted, keys_ascend, order_respects, sorted_ascending}
+use Rattle.history.proofs.Ordering.{Sorted, ascending_is_order, fill, fill_cases, fill_distinct, fill_in, fill_keeps, fill_sorted, insert, keys_ascend, order_respects, sorted_ascending, stands_by_key}
 use Rattle.history.proofs.Rows.{Distinct, distinct_once, extends_total, in_cases, in_later, in_nil}
 use Rattle.history.proofs.Serially.{respectful_orders_explain}
 use Rattle.history.proofs.Tracking.{ended_place}
@@ -49,84 +49,6 @@ module _ (k : ℕ → ℕ) where
       go : (z : ℕ) → In z a ⊎ In z (x ∷ []) → k z ≤ k y
       go z (inl j) = so.0 z j
       go z (inr j) = last z (in_cases z x [] j)
-
-  stands : (row : List ℕ) → Sorted k row → (x y : ℕ) → In x row → In y row → (x ≡ y → ⊥) → k x < k y → StandsBefore row x y
-  stands row so x y (ea, s) (eb, t) ne lt = go (extends_total s t)
-    where
-      first : (y ≡ x) ⊎ In y ea → StandsBefore row x y
-      first (inl e) = absurd (ne (sym e))
-      first (inr i) = absurd (omega (arith, sorted_ascending k y s so i))
-
-      second : (x ≡ y) ⊎ In x eb → StandsBefore row x y
-      second (inl e) = absurd (ne e)
-      second (inr i) = (eb, t, i)
-
-      go : Extends (x ∷ ea) (y ∷ eb) ⊎ Extends (y ∷ eb) (x ∷ ea) → StandsBefore row x y
-      go (inl u) = first (in_cases y x ea (eb, u))
-      go (inr u) = second (in_cases x y eb (ea, u))
-
-  -- the jobs of 1, .. n that are not closed sorted into the row
-  module _ (closed : ℕ → Bool) where
-    abbrev fill : ℕ → List ℕ → List ℕ
-    fill zero row = row
-    fill (suc n) row = cond (closed (suc n)) (fill n row) (insert k (suc n) (fill n row))
-
-    fill_keeps : (n z : ℕ) (row : List ℕ) → In z row → In z (fill n row)
-    fill_keeps zero z row i = i
-    fill_keeps (suc n) z row i = go (closed (suc n)) (fill_keeps n z row i)
-      where
-        go : (b : Bool) → In z (fill n row) → In z (cond b (fill n row) (insert k (suc n) (fill n row)))
-        go true j = j
-        go false j = insert_keeps k (suc n) z (fill n row) j
-
-    fill_in : (n z : ℕ) (row : List ℕ) → 1 ≤ z → z ≤ n → closed z ≡ false → In z (fill n row)
-    fill_in zero z row a b e = absurd (omega arith)
-    fill_in (suc n) z row a b e = go (closed (suc n)) refl (eqb z (suc n)) refl (λ l. fill_in n z row a l e)
-      where
-        go : (c : Bool) → closed (suc n) ≡ c → (t : Bool) → eqb z (suc n) ≡ t → (z ≤ n → In z (fill n row)) → In z (cond c (fill n row) (insert k (suc n) (fill n row)))
-        go true f true q ih = absurd (both_ways (closed z) e (ap closed (eqb-true z (suc n) q) ∙ f))
-        go true f false q ih = ih (omega (arith, eqb-false z (suc n) q))
-        go false f true q ih = rw (eqb-true z (suc n) q) (insert_in k (suc n) (fill n row))
-        go false f false q ih = insert_keeps k (suc n) z (fill n row) (ih (omega (arith, eqb-false z (suc n) q)))
-
-    fill_cases : (n z : ℕ) (row : List ℕ) → In z (fill n row) → In z row ⊎ ((1 ≤ z) × (z ≤ n) × (closed z ≡ false))
-    fill_cases zero z row i = inl i
-    fill_cases (suc n) z row i = go (closed (suc n)) refl i (fill_cases n z row)
-      where
-        on_n : In z row ⊎ ((1 ≤ z) × (z ≤ n) × (closed z ≡ false)) → In z row ⊎ ((1 ≤ z) × (z ≤ suc n) × (closed z ≡ false))
-        on_n (inl j) = inl j
-        on_n (inr (a, b, e)) = inr (a, omega arith, e)
-
-        Hyp : Type 0
-        Hyp = In z (fill n row) → In z row ⊎ ((1 ≤ z) × (z ≤ n) × (closed z ≡ false))
-
-        new : Hyp → closed (suc n) ≡ false → (z ≡ suc n) ⊎ In z (fill n row) → In z row ⊎ ((1 ≤ z) × (z ≤ suc n) × (closed z ≡ false))
-        new ih f (inl e) = inr (omega arith, omega arith, ap closed e ∙ f)
-        new ih f (inr j) = on_n (ih j)
-
-        go : (b : Bool) → closed (suc n) ≡ b → In z (cond b (fill n row) (insert k (suc n) (fill n row))) → Hyp → In z row ⊎ ((1 ≤ z) × (z ≤ suc n) × (closed z ≡ false))
-        go true f j ih = on_n (ih j)
-        go false f j ih = new ih f (insert_cases k (suc n) z (fill n row) j)
-
-    fill_sorted : (n : ℕ) (row : List ℕ) → Sorted k row → Sorted k (fill n row)
-    fill_sorted zero row so = so
-    fill_sorted (suc n) row so = go (closed (suc n)) (fill_sorted n row so)
-      where
-        go : (b : Bool) → Sorted k (fill n row) → Sorted k (cond b (fill n row) (insert k (suc n) (fill n row)))
-        go true s = s
-        go false s = insert_sorted k (suc n) (fill n row) s
-
-    fill_distinct : (n : ℕ) (row : List ℕ) → ((z : ℕ) → In z row → closed z ≡ true) → Distinct row → Distinct (fill n row)
-    fill_distinct zero row c dd = dd
-    fill_distinct (suc n) row c dd = go (closed (suc n)) refl (fill_distinct n row c dd)
-      where
-        clash : closed (suc n) ≡ false → In (suc n) row ⊎ ((1 ≤ suc n) × (suc n ≤ n) × (closed (suc n) ≡ false)) → ⊥
-        clash f (inl j) = both_ways (closed (suc n)) f (c (suc n) j)
-        clash f (inr (a, b, e)) = omega arith
-
-        go : (b : Bool) → closed (suc n) ≡ b → Distinct (fill n row) → Distinct (cond b (fill n row) (insert k (suc n) (fill n row)))
-        go true f s = s
-        go false f s = insert_distinct k (suc n) (fill n row) (λ i. clash f (fill_cases n (suc n) row i)) s
 
 ---- The ended part
 
@@ -234,7 +156,7 @@ module _ {V : Type 0} (d : V) (s : Register V) (run : History V) (r : Register V
 
   respects_by_key : (row : List ℕ) → Sorted k row → Distinct row → ((x : ℕ) → is_committed (projection (by_jobs run) x) ≡ true → In x row) → Respects (by_jobs run) row
   respects_by_key row so di all =
-      record { once = λ x p. distinct_once x p.1 di p.2; all_committed = all; rules = λ x y i j ne q. stands k row so x y i j ne (keys_ascend (by_jobs run) b.low b.high pl x y ne q) }
+      record { once = λ x p. distinct_once x p.1 di p.2; all_committed = all; rules = λ x y i j ne q. stands_by_key k row (sorted_ascending k row so) x y i j ne (keys_ascend (by_jobs run) b.low b.high pl x y ne q) }
 
   abbrev B : List ℕ
   B = order_of (day_book r)
@@ -281,7 +203,7 @@ module _ {V : Type 0} (d : V) (s : Register V) (run : History V) (r : Register V
       go (inr (a, l, e)) = (a, l)
 
   w_order : SerializationOrder (by_jobs run) whole
-  w_order = ascending_is_order (by_jobs run) b.low b.high pl whole (λ x p. distinct_once x p.1 w_distinct p.2) w_all w_only (λ x y p. sorted_ascending k x p.1 w_sorted p.2)
+  w_order = ascending_is_order (by_jobs run) b.low b.high pl whole (λ x p. distinct_once x p.1 w_distinct p.2) w_all w_only (sorted_ascending k whole w_sorted)
 
   w_done : SeriallyExplained (cell_values d s) (by_jobs run) whole
   w_done = respectful_orders_explain (cell_values d s) (by_jobs run) whole pr tr (order_respects (by_jobs run) whole pr w_order)
