@@ -1,7 +1,7 @@
 -- The day book's order explains what the ended jobs were told, and with the open jobs sorted in it explains what all were told.
 use Rattle.std.proofs.Common.{◌≡◌, ℕ, zero, suc, ◌<◌, ◌≤◌, Bool, true, false, cond, eqb, leb, ◌⊎◌, List, [], ◌∷◌, ◌++◌, is_some, Option, sym, refl, ap, ◌∙◌, inl, inr, arith, lit≤}
-use native.Mathlib.Decide.{dec_le}
-use Rattle.std.proofs.lemmas.Bool.{eqb-true, eqb-false, both_ways}
+use Rattle.std.proofs.Math.Logic.{⊎_elim}
+use Rattle.std.proofs.lemmas.Bool.{both_ways, cases_Bool, cond_both}
 use Rattle.terms.specs.declared.records.Entry.{Entry}
 use Rattle.choosers.specs.Meaning.{KeepsLaw, Meaning}
 use Rattle.history.specs.Bounds.{Bounds, Placed, Tracked, bounds_by_job, sort_key, sort_key_at}
@@ -16,10 +16,10 @@ use Rattle.history.specs.Values.{ReadsCurrent}
 use Rattle.history.specs.Views.{bounds_of}
 use Rattle.history.specs.WellMade.{WellMade}
 use Rattle.history.proofs.Crews.{well_formed}
-use Rattle.history.proofs.Moments.{projection_zero, unopened_projection, well_formed_tail}
+use Rattle.history.proofs.Moments.{numbered, well_formed_tail}
 use Rattle.history.proofs.Opacity.{bounds_run, tracked}
 use Rattle.history.proofs.Ordering.{Sorted, ascending_is_order, fill, fill_cases, fill_distinct, fill_in, fill_keeps, fill_sorted, insert, keys_ascend, order_respects, sorted_ascending, stands_by_key}
-use Rattle.history.proofs.Rows.{Distinct, distinct_once, extends_total, in_cases, in_later, in_nil}
+use Rattle.history.proofs.Rows.{Distinct, distinct_once, in_later, in_nil, in_one}
 use Rattle.history.proofs.Serially.{respectful_orders_explain}
 use Rattle.history.proofs.Tracking.{ended_place}
 use Rattle.history.proofs.Viewing.{crew_run, run_facts}
@@ -40,35 +40,18 @@ use Rattle.guarantee.proofs.Orders.{in_either}
 module _ (k : ℕ → ℕ) where
   sorted_last : (x : ℕ) (a : List ℕ) → Sorted k a → ((y : ℕ) → In y a → k x ≤ k y) → Sorted k (a ++ (x ∷ []))
   sorted_last x [] so f = ((λ z i. absurd (in_nil z i)), tt)
-  sorted_last x (y ∷ a) so f = ((λ z i. go z (in_either z a (x ∷ []) i)), sorted_last x a so.1 (λ z i. f z (in_later z y a i)))
-    where
-      last : (z : ℕ) → (z ≡ x) ⊎ In z [] → k z ≤ k y
-      last z (inl e) = rw e (f y (a, here))
-      last z (inr j) = absurd (in_nil z j)
-
-      go : (z : ℕ) → In z a ⊎ In z (x ∷ []) → k z ≤ k y
-      go z (inl j) = so.0 z j
-      go z (inr j) = last z (in_cases z x [] j)
+  sorted_last x (y ∷ a) so f = ((λ z i. ⊎_elim (so.0 z) (λ j. rw (in_one z x j) (f y (a, here))) (in_either z a (x ∷ []) i)), sorted_last x a so.1 (λ z i. f z (in_later z y a i)))
 
 ---- The ended part
 
 module _ {V : Type 0} (h : History V) (k : ℕ → ℕ) where
   ended_insert : (x : ℕ) → has_ended h x ≡ false → (r : List ℕ) → ended_part h (insert k x r) ≡ ended_part h r
   ended_insert x e [] = rw e
-  ended_insert x e (y ∷ r) = go (leb (k y) (k x)) (ended_insert x e r)
-    where
-      go : (b : Bool) → ended_part h (insert k x r) ≡ ended_part h r → ended_part h (cond b (x ∷ y ∷ r) (y ∷ insert k x r)) ≡ ended_part h (y ∷ r)
-      go true ih = rw e
-      go false ih = ap (λ (q : List ℕ). cond (has_ended h y) (y ∷ q) q) ih
+  ended_insert x e (y ∷ r) = cond_both (leb (k y) (k x)) _ _ (λ (q : List ℕ). ended_part h q ≡ ended_part h (y ∷ r)) (λ _. rw e refl) (λ _. ap (λ (q : List ℕ). cond (has_ended h y) (y ∷ q) q) (ended_insert x e r))
 
   ended_fill : (n : ℕ) (row : List ℕ) → ended_part h (fill k (has_ended h) n row) ≡ ended_part h row
   ended_fill zero row = refl
-  ended_fill (suc n) row = go (has_ended h (suc n)) refl (ended_fill n row)
-    where
-      go : (b : Bool) → has_ended h (suc n) ≡ b → ended_part h (fill k (has_ended h) n row) ≡ ended_part h row →
-          ended_part h (cond b (fill k (has_ended h) n row) (insert k (suc n) (fill k (has_ended h) n row))) ≡ ended_part h row
-      go true e ih = ih
-      go false e ih = ended_insert (suc n) e (fill k (has_ended h) n row) ∙ ih
+  ended_fill (suc n) row = let ih = ended_fill n row in cond_both (has_ended h (suc n)) _ _ (λ (q : List ℕ). ended_part h q ≡ ended_part h row) (λ _. ih) (λ e. ended_insert (suc n) e (fill k (has_ended h) n row) ∙ ih)
 
   ended_whole : (row : List ℕ) → ((x : ℕ) → In x row → has_ended h x ≡ true) → ended_part h row ≡ row
   ended_whole [] f = refl
@@ -86,15 +69,7 @@ module _ {V : Type 0} where
   committed_ends (abandons p ∷ s) e = refl
 
   ended_numbered : (h : History V) → WellFormed h → (x : ℕ) → has_ended h x ≡ true → (1 ≤ x) × (x ≤ openings h)
-  ended_numbered h pr x q = (low x q, high (dec_le x (openings h)))
-    where
-      low : (x : ℕ) → has_ended h x ≡ true → 1 ≤ x
-      low zero q = absurd (both_ways (has_ended h 0) (ap (λ s. is_some (end_place s)) (projection_zero h pr)) q)
-      low (suc x) q = omega arith
-
-      high : Dec (x ≤ openings h) → x ≤ openings h
-      high (yes l) = l
-      high (no n) = absurd (both_ways (has_ended h x) (ap (λ s. is_some (end_place s)) (unopened_projection h pr x (omega arith))) q)
+  ended_numbered h pr x q = numbered h pr x (λ e. both_ways (has_ended h x) (ap (λ s. is_some (end_place s)) e) q)
 
   well_formed_since : {h g : History V} → Extends h g → WellFormed h → WellFormed g
   well_formed_since here pr = pr
@@ -140,15 +115,7 @@ module _ {V : Type 0} (d : V) (s : Register V) (run : History V) (r : Register V
 
   above_row : (e : Entry) (es : List Entry) → Names run e → All (NotAbove e) es → All (Names run) es → (y : ℕ) → In y (order_of es) → k e.job.0 ≤ k y
   above_row e [] n a ns y i = absurd (in_nil y i)
-  above_row e (g ∷ es) n a ns y i = go (above_row e es n a.1 ns.1 y) (in_either y (order_of es) (g.job.0 ∷ []) i)
-    where
-      mine : (y ≡ g.job.0) ⊎ In y [] → k e.job.0 ≤ k y
-      mine (inl q) = rw (q, key_place e n, key_place g ns.0) a.0
-      mine (inr j) = absurd (in_nil y j)
-
-      go : (In y (order_of es) → k e.job.0 ≤ k y) → In y (order_of es) ⊎ In y (g.job.0 ∷ []) → k e.job.0 ≤ k y
-      go ih (inl j) = ih j
-      go ih (inr j) = mine (in_cases y g.job.0 [] j)
+  above_row e (g ∷ es) n a ns y i = ⊎_elim (above_row e es n a.1 ns.1 y) (λ j. rw (in_one y g.job.0 j, key_place e n, key_place g ns.0) a.0) (in_either y (order_of es) (g.job.0 ∷ []) i)
 
   book_sorted : (es : List Entry) → Ascending es → All (Names run) es → Sorted k (order_of es)
   book_sorted [] c ns = tt
@@ -189,18 +156,10 @@ module _ {V : Type 0} (d : V) (s : Register V) (run : History V) (r : Register V
   w_distinct = fill_distinct k (has_ended (by_jobs run)) (openings (by_jobs run)) B b_only inv.booked.distinct
 
   w_all : (x : ℕ) → 1 ≤ x → x ≤ openings (by_jobs run) → In x whole
-  w_all x a l = go (has_ended (by_jobs run) x) refl
-    where
-      go : (t : Bool) → has_ended (by_jobs run) x ≡ t → In x whole
-      go true e = fill_keeps k (has_ended (by_jobs run)) (openings (by_jobs run)) x B (inv.booked.all x e)
-      go false e = fill_in k (has_ended (by_jobs run)) (openings (by_jobs run)) x B a l e
+  w_all x a l = ⊎_elim (λ e. fill_keeps k (has_ended (by_jobs run)) (openings (by_jobs run)) x B (inv.booked.all x e)) (fill_in k (has_ended (by_jobs run)) (openings (by_jobs run)) x B a l) (cases_Bool (has_ended (by_jobs run) x))
 
   w_only : (x : ℕ) → In x whole → (1 ≤ x) × (x ≤ openings (by_jobs run))
-  w_only x i = go (fill_cases k (has_ended (by_jobs run)) (openings (by_jobs run)) x B i)
-    where
-      go : In x B ⊎ ((1 ≤ x) × (x ≤ openings (by_jobs run)) × (has_ended (by_jobs run) x ≡ false)) → (1 ≤ x) × (x ≤ openings (by_jobs run))
-      go (inl j) = ended_numbered (by_jobs run) pr x (b_only x j)
-      go (inr (a, l, e)) = (a, l)
+  w_only x i = ⊎_elim (λ j. ended_numbered (by_jobs run) pr x (b_only x j)) (λ q. (q.0, q.1)) (fill_cases k (has_ended (by_jobs run)) (openings (by_jobs run)) x B i)
 
   w_order : SerializationOrder (by_jobs run) whole
   w_order = ascending_is_order (by_jobs run) b.low b.high pl whole (λ x p. distinct_once x p.1 w_distinct p.2) w_all w_only (sorted_ascending k whole w_sorted)

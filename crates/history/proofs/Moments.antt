@@ -1,8 +1,8 @@
 -- What a projection says of the history: from a job's own operations to the moments at which they occur.
 use Rattle.std.proofs.Common.{◌≡◌, ℕ, zero, suc, ◌<◌, ◌≤◌, Bool, true, false, cond, eqb, ◌⊎◌, List, [], ◌∷◌, Some, None, Option, sym, refl, ap, ◌∙◌, subst, inl, inr, arith}
-use Rattle.std.proofs.lemmas.Bool.{eqb-true, eq-eqb, ne_eqb, both_ways}
+use Rattle.std.proofs.Math.Logic.{⊎_elim}
+use Rattle.std.proofs.lemmas.Bool.{eqb-true, eq-eqb, ne_eqb, both_ways, cases_lt}
 use Rattle.std.proofs.lemmas.Option.{none-some}
-use native.Mathlib.Decide.{dec_le}
 use Rattle.history.specs.Events.{Operation, Event, Events, History, openings}
 use Rattle.history.specs.Events.Operation.{opens, reads, writes, commits, abandons}
 use Rattle.history.specs.Events.Event.{by}
@@ -164,14 +164,7 @@ module _ {V : Type 0} where
   projection_zero (by y (commits p) ∷ h) wf = projection_other y 0 h (commits p) (active_not_zero h y (projection_zero h wf.1) wf.0) (projection_zero h wf.1)
   projection_zero (by y (abandons p) ∷ h) wf = projection_other y 0 h (abandons p) (active_not_zero h y (projection_zero h wf.1) wf.0) (projection_zero h wf.1)
 
-  -- a committed job has a number from 1 up to the count of openings
-  pub committed_numbered : (h : History V) → WellFormed h → (x : ℕ) → is_committed (projection h x) ≡ true → (1 ≤ x) × (x ≤ openings h)
-  committed_numbered h wf x q = (low x q, high (dec_le x (openings h)))
-    where
-      low : (x : ℕ) → is_committed (projection h x) ≡ true → 1 ≤ x
-      low zero q = absurd (both_ways (is_committed (projection h 0)) (ap is_committed (projection_zero h wf)) q)
-      low (suc x) q = omega arith
-
-      high : Dec (x ≤ openings h) → x ≤ openings h
-      high (yes l) = l
-      high (no n) = absurd (both_ways (is_committed (projection h x)) (ap is_committed (unopened_projection h wf x (omega arith))) q)
+  -- a job that has done something has a number from 1 up to the count of openings
+  pub numbered : (h : History V) → WellFormed h → (x : ℕ) → (projection h x ≡ [] → ⊥) → (1 ≤ x) × (x ≤ openings h)
+  numbered h wf zero n = absurd (n (projection_zero h wf))
+  numbered h wf (suc x) n = (omega arith, ⊎_elim (λ l. absurd (n (unopened_projection h wf (suc x) l))) (λ l. l) (cases_lt (openings h) (suc x)))

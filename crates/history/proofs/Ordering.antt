@@ -3,14 +3,14 @@ use Rattle.std.proofs.Common.{◌≡◌, ℕ, zero, suc, ◌<◌, ◌≤◌, Boo
 use Rattle.std.proofs.Math.Logic.{⊎_elim, ⊎_map}
 use Rattle.std.proofs.lemmas.Bool.{both_ways, cases_eq, cond_both, leb-true, leb-false}
 use Rattle.history.specs.Events.{History, openings}
-use Rattle.history.specs.Projections.{projection, end_place, WellFormed}
+use Rattle.history.specs.Projections.{projection, end_place, is_committed, WellFormed}
 use Rattle.history.specs.Values.{ReadsCurrent}
 use Rattle.history.specs.Precedence.{Extends, Precedes, In, StandsBefore, Once, Respects, SerializationOrder}
 use Rattle.history.specs.Precedence.Extends.{here, later}
 use Rattle.history.specs.SerialExecution.{SeriallyExplained}
 use Rattle.history.specs.Bounds.{PlacedApart, Placed, sort_key_at, sort_key, Ascending}
 use Rattle.history.proofs.Rows.{extends_total, in_later, in_cases, in_nil, in_head, Distinct, distinct_once}
-use Rattle.history.proofs.Moments.{committed_numbered}
+use Rattle.history.proofs.Moments.{numbered}
 use Rattle.history.proofs.Serially.{respectful_orders_explain}
 
 -- a row in ascending keys, the last first
@@ -139,7 +139,7 @@ module _ {V : Type 0} (h : History V) (low high : ℕ → ℕ) (pl : Placed h lo
       n = openings h
 
 pub order_respects : {V : Type 0} (h : History V) (row : List ℕ) → WellFormed h → SerializationOrder h row → Respects h row
-order_respects h row wf l = record { once = l.once; rules = l.rules; all_committed = λ x q. let n = committed_numbered h wf x q in l.all x n.0 n.1 }
+order_respects h row wf l = record { once = l.once; rules = l.rules; all_committed = λ x q. let n = numbered h wf x (λ e. both_ways (is_committed (projection h x)) (ap is_committed e) q) in l.all x n.0 n.1 }
 
 pub orders_explain : {V : Type 0} (first : ℕ → V) (h : History V) (row : List ℕ) → WellFormed h → ReadsCurrent first h → SerializationOrder h row → SeriallyExplained first h row
 orders_explain first h row wf rc l = respectful_orders_explain first h row wf rc (order_respects h row wf l)

@@ -1,5 +1,6 @@
 -- Rows of jobs: their moments, who stands in them, and what it is to stand once.
 use Rattle.std.proofs.Common.{◌≡◌, ℕ, ◌≤◌, ◌⊎◌, List, [], ◌∷◌, length, refl, inl, inr, arith}
+use Rattle.std.proofs.Math.Logic.{⊎_elim}
 use Rattle.history.specs.Precedence.{Extends, In, StandsBefore, Once}
 use Rattle.history.specs.Precedence.Extends.{here, later}
 
@@ -40,6 +41,9 @@ in_cases z y r (ea, s) = extends_cases s
 
 pub in_nil : (z : ℕ) → In z [] → ⊥
 in_nil z (ea, s) = elim s [ ]
+
+pub in_one : (z y : ℕ) → In z (y ∷ []) → z ≡ y
+in_one z y i = ⊎_elim (λ e. e) (λ j. absurd (in_nil z j)) (in_cases z y [] i)
 
 pub in_head : (z y : ℕ) (r : List ℕ) → z ≡ y → In z (y ∷ r)
 in_head z y r e = (r, rw e here)
