@@ -1,6 +1,6 @@
 -- From crews to jobs: a well-made run of crews is a well-formed history of jobs, and each open job is one crew's.
 use Rattle.std.proofs.Common.{◌≡◌, ℕ, zero, suc, ◌≤◌, Bool, true, false, cond, ◌&&◌, eqb, List, [], ◌∷◌, sym, refl, ap, ◌∙◌, arith}
-use Rattle.std.proofs.lemmas.Bool.{eqb-true, eqb-false, eq-eqb, ne_eqb, both_ways}
+use Rattle.std.proofs.lemmas.Bool.{eqb-true, eqb-false, eq-eqb, ne_eqb, both_ways, cond_both}
 use Rattle.history.specs.Events.{Operation, Event, Events, History, is_opening, is_ending, openings, open_job, by_jobs, crew_of}
 use Rattle.history.specs.Events.Operation.{opens, reads, writes, commits, abandons}
 use Rattle.history.specs.Events.Event.{by}
@@ -27,11 +27,7 @@ module _ {V R P : Type 0} where
   openings_by_job (by w o ∷ run) = ap (λ n. cond (is_opening o) (suc n) n) (openings_by_job run)
 
   pub openings_tail : (w : ℕ) (o : Operation V R P) (run : Events V R P) → openings run ≤ openings (by w o ∷ run)
-  openings_tail w o run = go (is_opening o)
-    where
-      go : (b : Bool) → openings run ≤ cond b (suc (openings run)) (openings run)
-      go true = omega arith
-      go false = omega arith
+  openings_tail w o run = cond_both (is_opening o) _ _ (λ k. openings run ≤ k) (λ _. omega arith) (λ _. omega arith)
 
   pub open_job_numbered : (run : Events V R P) (w : ℕ) → open_job run w ≤ openings run
   open_job_numbered [] w = omega arith
@@ -55,10 +51,6 @@ module _ {V : Type 0} where
   one_crew (by k (commits p) ∷ run) w u a e = ended_one_crew w u (eqb k w) (eqb k u) (open_job run w) (open_job run u) a e (one_crew run w u)
   one_crew (by k (abandons p) ∷ run) w u a e = ended_one_crew w u (eqb k w) (eqb k u) (open_job run w) (open_job run u) a e (one_crew run w u)
 
-  active_either : (s t : List (Operation V V ℕ)) (b : Bool) → is_active s ≡ true → is_active t ≡ true → is_active (cond b s t) ≡ true
-  active_either s t true p q = p
-  active_either s t false p q = q
-
   -- an ending of crew u leaves the job of another crew as it was
   still_open_active : (run : History V) (u w : ℕ) (o : Operation V V ℕ) (b : Bool) → eqb u w ≡ b → 1 ≤ cond b 0 (open_job run w) →
       (1 ≤ open_job run w → is_active (projection (by_jobs run) (open_job run w)) ≡ true) →
@@ -76,8 +68,8 @@ module _ {V : Type 0} where
           is_active (projection (by (suc (openings run)) opens ∷ by_jobs run) (cond b (suc (openings run)) (open_job run w))) ≡ true
       go true a l ih = rw (eq-eqb (suc (openings run)) (suc (openings run)) refl)
       go false a l ih = rw (ne_eqb (suc (openings run)) (open_job run w) (λ e. omega arith)) (ih a)
-  open_job_active (by u (reads c v) ∷ run) w a = let ih = open_job_active run w a in active_either _ _ (eqb (open_job run u) (open_job run w)) ih ih
-  open_job_active (by u (writes c v) ∷ run) w a = let ih = open_job_active run w a in active_either _ _ (eqb (open_job run u) (open_job run w)) ih ih
+  open_job_active (by u (reads c v) ∷ run) w a = let ih = open_job_active run w a in cond_both (eqb (open_job run u) (open_job run w)) _ _ (λ s. is_active s ≡ true) (λ _. ih) (λ _. ih)
+  open_job_active (by u (writes c v) ∷ run) w a = let ih = open_job_active run w a in cond_both (eqb (open_job run u) (open_job run w)) _ _ (λ s. is_active s ≡ true) (λ _. ih) (λ _. ih)
   open_job_active (by u (commits p) ∷ run) w a = still_open_active run u w (commits p) (eqb u w) refl a (open_job_active run w)
   open_job_active (by u (abandons p) ∷ run) w a = still_open_active run u w (abandons p) (eqb u w) refl a (open_job_active run w)
 

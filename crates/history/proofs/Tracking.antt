@@ -1,6 +1,7 @@
 -- One more call that moves the bounds as it should keeps them in agreement with the history.
 use Rattle.std.proofs.Common.{◌≡◌, ℕ, ◌<◌, ◌≤◌, Bool, true, false, cond, eqb, ◌⊎◌, List, [], ◌∷◌, Some, None, Option, sym, refl, ap, ◌∙◌, subst, inl, inr, arith}
 use Rattle.std.proofs.lemmas.Bool.{eqb-true, eq-eqb, ne_eqb, both_ways}
+use Rattle.std.proofs.Math.Logic.{⊎_elim}
 use Rattle.std.proofs.lemmas.Option.{none-some}
 use Rattle.history.specs.Events.{Operation, Event, History, ends_at}
 use Rattle.history.specs.Events.Operation.{opens, reads, writes, commits, abandons}
@@ -105,23 +106,15 @@ module _ {V : Type 0} where
   ends_step (commits p) s true q = (p, refl)
   ends_step (abandons p) s true q = (p, refl)
 
-  place_when_ended : (x p : ℕ) (g h : History V) → Extends h (by x (commits p) ∷ g) → Ends (projection h x)
-  place_when_ended x p g h here = rw (eq-eqb x x refl) (p, refl)
-  place_when_ended x p g _ (later {a = by y d} {h = h} s) = ends_step d (projection h x) (eqb y x) (place_when_ended x p g h s)
-
-  place_when_ended' : (x p : ℕ) (g h : History V) → Extends h (by x (abandons p) ∷ g) → Ends (projection h x)
-  place_when_ended' x p g h here = rw (eq-eqb x x refl) (p, refl)
-  place_when_ended' x p g _ (later {a = by y d} {h = h} s) = ends_step d (projection h x) (eqb y x) (place_when_ended' x p g h s)
+  place_when_ended : (x : ℕ) (d : Operation V V ℕ) (g h : History V) → Ends (d ∷ projection g x) → Extends h (by x d ∷ g) → Ends (projection h x)
+  place_when_ended x d g h q here = rw (eq-eqb x x refl) q
+  place_when_ended x d g _ q (later {a = by y e} {h = h} s) = ends_step e (projection h x) (eqb y x) (place_when_ended x d g h q s)
 
   pub ended_place : (h : History V) (x : ℕ) → Ended h x → Ends (projection h x)
-  ended_place h x e = go e.occurs
-    where
-      go : Occurs h x (commits e.place) e.before ⊎ Occurs h x (abandons e.place) e.before → Ends (projection h x)
-      go (inl s) = place_when_ended x e.place e.before h s
-      go (inr s) = place_when_ended' x e.place e.before h s
+  ended_place h x e = ⊎_elim (place_when_ended x (commits e.place) e.before h (e.place, refl)) (place_when_ended x (abandons e.place) e.before h (e.place, refl)) e.occurs
 
   pub committed_place : (h : History V) (x c : ℕ) → CommittedCell h x c → Ends (projection h x)
-  committed_place h x c k = place_when_ended x k.place k.before h k.occurs
+  committed_place h x c k = place_when_ended x (commits k.place) k.before h (k.place, refl) k.occurs
 
   -- an active job has no place
   active_unplaced_step : (y x : ℕ) (h : History V) (d : Operation V V ℕ) (b : Bool) → eqb y x ≡ b → WellFormed (by y d ∷ h) →
@@ -187,11 +180,7 @@ module _ {V : Type 0} where
         go None e = inr (place_step h x z p d (eqb x z) refl e q)
 
     highest_now : (z p : ℕ) → end_place (projection (by x d ∷ h) z) ≡ Some p → p ≤ b'.highest
-    highest_now z p q = go (place_cases z p q)
-      where
-        go : (end_place (projection h z) ≡ Some p) ⊎ ((x ≡ z) × (ends_at d ≡ Some p)) → p ≤ b'.highest
-        go (inl e) = omega (arith, tracked_before.below_highest z p e, mv.highest_up)
-        go (inr e) = (mv.ends p e.1).0
+    highest_now z p q = ⊎_elim (λ e. omega (arith, tracked_before.below_highest z p e, mv.highest_up)) (λ e. (mv.ends p e.1).0) (place_cases z p q)
 
     written_now : (z c p : ℕ) → CommittedCell (by x d ∷ h) z c → end_place (projection (by x d ∷ h) z) ≡ Some p → p ≤ b'.written c
     written_now z c p k q = go (place_cases z p q) (committed_cases z c (by x d) h k)
@@ -257,18 +246,17 @@ module _ {V : Type 0} where
 
   pub tracked_step : (h : History V) (b : Bounds) (x : ℕ) (d : Operation V V ℕ) (b' : Bounds) → WellFormed (by x d ∷ h) → Tracked h b → Moves h b x d b' → Tracked (by x d ∷ h) b'
   tracked_step h b x d b' wf tracked_before mv = record {
-    placed = record { apart = λ y z ne k. go y z ne (precedes_cases y z (by x d) h k); room = mv.room };
+    placed = record {
+      apart = λ y z ne k. ⊎_elim (now_apart h b x d b' wf tracked_before mv y z ne) (λ k.
+          apart_later (end_place (projection h y)) (end_place (projection h z)) (end_place (projection (by x d ∷ h) y)) (end_place (projection (by x d ∷ h) z)) (b.low y)
+          (b.high y) (b.low z) (b.high z) (b'.low y) (b'.high y) (b'.low z) (b'.high z) (mv.closes_in y) (mv.closes_in z)
+          (tracked_before.placed.apart y z ne k)) (precedes_cases y z (by x d) h k);
+      room = mv.room;
+    };
     below_highest = highest_now h b x d b' wf tracked_before mv;
     below_written = written_now h b x d b' wf tracked_before mv;
     below_read = read_now h b x d b' wf tracked_before mv;
   }
-    where
-      go : (y z : ℕ) → (y ≡ z → ⊥) → PrecedesNow (by x d) h y z ⊎ Precedes h y z → ApartNow h b x d b' wf tracked_before mv y z
-      go y z ne (inl k) = now_apart h b x d b' wf tracked_before mv y z ne k
-      go y z ne (inr k) =
-          apart_later (end_place (projection h y)) (end_place (projection h z)) (end_place (projection (by x d ∷ h) y)) (end_place (projection (by x d ∷ h) z)) (b.low y)
-          (b.high y) (b.low z) (b.high z) (b'.low y) (b'.high y) (b'.low z) (b'.high z) (mv.closes_in y) (mv.closes_in z)
-          (tracked_before.placed.apart y z ne k)
 
   -- a job that has read and has no place is open
   reader_step : (y x : ℕ) (d : Operation V V ℕ) (s : List (Operation V V ℕ)) (b : Bool) → (end_place s ≡ None → is_active s ≡ true) → end_place (cond b (d ∷ s) s) ≡ None →
