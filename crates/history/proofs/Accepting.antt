@@ -1,6 +1,7 @@
 -- Where places for the jobs rise along precedence, the register accepts every call at them: the low bound of each open job stays below its place, and the high one above.
 use Rattle.std.proofs.Common.{◌≡◌, ℕ, zero, suc, ◌+◌, ◌<◌, ◌≤◌, min, max, Bool, true, false, cond, ◌&&◌, eqb, leb, ◌⊎◌, [], ◌∷◌, None, sym, refl, ap, ◌∙◌, subst, ap₂, inl, inr, arith}
-use Rattle.std.proofs.lemmas.Bool.{eqb-true, eqb-false, both_ways, leb-true, leb-false, and_parts, or_cases}
+use Rattle.std.proofs.lemmas.Bool.{eqb-true, eqb-false, both_ways, and_parts, or_cases, cases_lt}
+use Rattle.std.proofs.Math.Logic.{⊎_elim, ⊎_map}
 use Rattle.std.proofs.lemmas.Option.{none-some}
 use Rattle.history.specs.Events.{Operation, Event, Events, History, is_opening, openings, open_job, by_jobs}
 use Rattle.history.specs.Events.Operation.{opens, reads, writes, commits, abandons}
@@ -37,20 +38,12 @@ rising_alike top at a f = record { rises = λ x y n b. f.rises x y n (precedes_a
 
 conflicts_to : {V : Type 0} (s : RegisterView V) (w u n : ℕ) → conflicts s w u n ≡ true → (c : ℕ) × (s.has_read u c ≡ true) × (s.has_written w c ≡ true)
 conflicts_to s w u zero e = absurd (both_ways false refl e)
-conflicts_to s w u (suc n) e = go (or_cases (s.has_read u (suc n) && s.has_written w (suc n)) (conflicts s w u n) e) (conflicts_to s w u n)
-  where
-    go : ((s.has_read u (suc n) && s.has_written w (suc n)) ≡ true) ⊎ (conflicts s w u n ≡ true) →
-        (conflicts s w u n ≡ true → (c : ℕ) × (s.has_read u c ≡ true) × (s.has_written w c ≡ true)) → (c : ℕ) × (s.has_read u c ≡ true) × (s.has_written w c ≡ true)
-    go (inl q) ih = let k = and_parts (s.has_read u (suc n)) (s.has_written w (suc n)) q in (suc n, k.0, k.1)
-    go (inr q) ih = ih q
+conflicts_to s w u (suc n) e = ⊎_elim (λ q. let k = and_parts (s.has_read u (suc n)) (s.has_written w (suc n)) q in (suc n, k.0, k.1)) (conflicts_to s w u n)
+    (or_cases (s.has_read u (suc n) && s.has_written w (suc n)) (conflicts s w u n) e)
 
 module _ {V : Type 0} where
   ended_later : (a : Event V V ℕ) {h : History V} {x : ℕ} → Ended h x → Ended (a ∷ h) x
-  ended_later a {h = h} {x = x} e = go e.occurs
-    where
-      go : Occurs h x (commits e.place) e.before ⊎ Occurs h x (abandons e.place) e.before → Ended (a ∷ h) x
-      go (inl s) = record { place = e.place; before = e.before; occurs = inl (later s) }
-      go (inr s) = record { place = e.place; before = e.before; occurs = inr (later s) }
+  ended_later a e = record { place = e.place; before = e.before; occurs = ⊎_map later later e.occurs }
 
   committed_ended : {h : History V} {x c : ℕ} → CommittedCell h x c → Ended h x
   committed_ended k = record { place = k.place; before = k.before; occurs = inl k.occurs }
@@ -64,19 +57,14 @@ abbrev Mark : (ℕ → ℕ) → (ℕ → Type 0) → ℕ → Type 0
 Mark at Q k = (k ≡ 0) ⊎ ((y : ℕ) × Q y × (k ≡ at y))
 
 mark_map : (at : ℕ → ℕ) (Q S : ℕ → Type 0) (k : ℕ) → ((y : ℕ) → Q y → S y) → Mark at Q k → Mark at S k
-mark_map at Q S k f (inl e) = inl e
-mark_map at Q S k f (inr m) = inr (m.0, f m.0 m.1, m.2)
+mark_map at Q S k f = ⊎_map (λ e. e) (λ m. (m.0, f m.0 m.1, m.2))
 
 mark_below : (at : ℕ → ℕ) (Q : ℕ → Type 0) (k p : ℕ) → 1 ≤ p → ((y : ℕ) → Q y → at y < p) → Mark at Q k → k < p
 mark_below at Q k p l f (inl e) = omega arith
 mark_below at Q k p l f (inr m) = omega (arith, f m.0 m.1, m.2)
 
 mark_max : (at : ℕ → ℕ) (Q : ℕ → Type 0) (k x : ℕ) → Q x → Mark at Q k → Mark at Q (max k (at x))
-mark_max at Q k x q m = go (leb k (at x)) refl
-  where
-    go : (b : Bool) → leb k (at x) ≡ b → Mark at Q (max k (at x))
-    go true e = inr (x, q, omega (arith, leb-true k (at x) e))
-    go false e = let f : max k (at x) ≡ k = omega (arith, leb-false k (at x) e) in subst (λ z. Mark at Q z) (sym f) m
+mark_max at Q k x q m = ⊎_elim (λ l. let f : max k (at x) ≡ k = omega arith in subst (Mark at Q) (sym f) m) (λ l. inr (x, q, omega arith)) (cases_lt (at x) k)
 
 -- each table entry is 0 or the place of a job that did what the table is for, and each open job has its place between its bounds
 record PlacesFit {V : Type 0} (at : ℕ → ℕ) (run : History V) (s : RegisterView V) : Type 0 where

@@ -1,7 +1,7 @@
 -- What a projection says of the history: from a job's own operations to the moments at which they occur.
 use Rattle.std.proofs.Common.{◌≡◌, ℕ, zero, suc, ◌<◌, ◌≤◌, Bool, true, false, cond, eqb, ◌⊎◌, List, [], ◌∷◌, Some, None, Option, sym, refl, ap, ◌∙◌, subst, inl, inr, arith}
 use Rattle.std.proofs.Math.Logic.{⊎_elim}
-use Rattle.std.proofs.lemmas.Bool.{eqb-true, eq-eqb, ne_eqb, both_ways, cases_lt}
+use Rattle.std.proofs.lemmas.Bool.{eqb-true, eq-eqb, ne_eqb, both_ways, cases_lt, cond_both}
 use Rattle.std.proofs.lemmas.Option.{none-some}
 use Rattle.history.specs.Events.{Operation, Event, Events, History, openings}
 use Rattle.history.specs.Events.Operation.{opens, reads, writes, commits, abandons}
@@ -59,11 +59,7 @@ module _ {V : Type 0} where
   buffered_step c d s false q = q
   buffered_step c opens s true q = q
   buffered_step c (reads k w) s true q = q
-  buffered_step c (writes k w) s true q = go (eqb k c)
-    where
-      go : (b : Bool) → (u : V) × (cond b (Some w) (buffered s c) ≡ Some u)
-      go true = (w, refl)
-      go false = q
+  buffered_step c (writes k w) s true q = cond_both (eqb k c) (Some w) (buffered s c) (λ o. (u : V) × (o ≡ Some u)) (λ _. (w, refl)) (λ _. q)
   buffered_step c (commits p) s true q = q
   buffered_step c (abandons p) s true q = q
 

@@ -1,5 +1,6 @@
 -- Permissiveness, both ways: the positions in a serialization order are accepted as places, and what is accepted has a serialization order.
 use Rattle.std.proofs.Common.{◌≡◌, ℕ, suc, ◌+◌, ◌<◌, ◌≤◌, ◌⊎◌, ◌↔◌, List, [], ◌∷◌, subst, inl, inr, arith}
+use Rattle.std.proofs.Math.Logic.{⊎_elim}
 use Rattle.history.specs.Events.{Operation, Events, openings, open_job, by_jobs}
 use Rattle.history.specs.Events.Operation.{opens, reads, writes, commits, abandons}
 use Rattle.history.specs.Events.Event.{by}
@@ -37,11 +38,7 @@ module _ {V R P : Type 0} where
     both_numbered {x = x} {y = y} s t = (occurs_numbered cs wm x (extends_trans s (later t)), occurs_numbered cs wm y s)
 
     precedes_numbered : {x y : ℕ} → Precedes (by_jobs cs) x y → Numbered cs x × Numbered cs y
-    precedes_numbered {x = x} {y = y} (real_time {g = g} s e) = go e.occurs
-      where
-        go : Occurs g x (commits e.place) e.before ⊎ Occurs g x (abandons e.place) e.before → Numbered cs x × Numbered cs y
-        go (inl t) = both_numbered s t
-        go (inr t) = both_numbered s t
+    precedes_numbered (real_time s e) = ⊎_elim (both_numbered s) (both_numbered s) e.occurs
     precedes_numbered (committed_read s n e) = both_numbered s e.occurs
     precedes_numbered (read_committed s w e) = both_numbered s e.occurs
     precedes_numbered (committed_committed s w e) = both_numbered s e.occurs
