@@ -1,6 +1,7 @@
 -- The low bound that a commit asks for, in the tables and on the view.
 use Rattle.std.proofs.Common.{◌≡◌, ℕ, zero, suc, ◌+◌, ◌≤◌, max, Bool, true, false, cond, not, ◌&&◌, eqb, leb, sym, refl, ◌∙◌, ap₂, arith}
-use Rattle.std.proofs.lemmas.Bool.{eqb-true, eqb-false, eq-eqb, ne_eqb, le-leb}
+use Rattle.std.specs.Cmp.{both_ways as same_tests}
+use Rattle.std.proofs.lemmas.Bool.{eqb-true, eq-eqb, le-leb}
 use Rattle.terms.specs.declared.records.JobRecord.{JobRecord}
 use Rattle.history.specs.Acceptance.{cells_lower_bound, commit_lower_bound, is_open_reader, readers_lower_bound}
 use Rattle.history.specs.Views.{RegisterView, conflicts}
@@ -20,11 +21,7 @@ most_crews_lem f n s w zero h = refl
 most_crews_lem f n s w (suc m) h = ap₂ max (h (suc m) (omega arith) (omega arith)) (most_crews_lem f n s w m (λ u a b. h u a (omega arith)))
 
 eqb_swap : (a b : ℕ) → eqb a b ≡ eqb b a
-eqb_swap a b = go (eqb a b) refl
-  where
-    go : (t : Bool) → eqb a b ≡ t → t ≡ eqb b a
-    go true e = sym (eq-eqb b a (sym (eqb-true a b e)))
-    go false e = sym (ne_eqb b a (λ q. eqb-false a b e (sym q)))
+eqb_swap a b = same_tests (eqb a b) (eqb b a) (λ e. eq-eqb b a (sym (eqb-true a b e))) (λ e. eq-eqb a b (sym (eqb-true b a e)))
 
 -- a closed job counts for nothing
 one_crew : (b : Bool) (j : JobRecord) (x l h : ℕ) (t y : Bool) → Tied b j x l h → cond (t && (b && y)) (j.low.0 + 1) 0 ≡ cond (t && (leb 1 x && y)) (l + 1) 0

@@ -9,9 +9,6 @@ use Rattle.history.proofs.Rows.{Distinct, in_cases, in_head, in_later}
 use Rattle.rules.specs.Performing.{All, Ascending, NotAbove}
 use Rattle.guarantee.specs.Opacity.{order_of}
 
-abbrev pub same : ℕ → ℕ
-same x = x
-
 since_app : {A : Type 0} {x y : List A} (z : List A) → Extends x y → Extends (x ++ z) (y ++ z)
 since_app z here = here
 since_app z (later s) = later (since_app z s)

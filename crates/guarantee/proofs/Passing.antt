@@ -85,11 +85,8 @@ OfTables (t ∷ ts) = ((table : TableName) × (t.1 ≡ WrongTable table)) × OfT
 
 first_table : (ts us : Tests) → OfTables ts → (NoneOf ts → ⊥) → (table : TableName) × (first_refusal (ts ++ us) ≡ Some (WrongTable table))
 first_table [] us o n = absurd (n tt)
-first_table (t ∷ ts) us o n = go t.0 refl (first_table ts us o.1)
-  where
-    go : (b : Bool) → t.0 ≡ b → ((NoneOf ts → ⊥) → (table : TableName) × (first_refusal (ts ++ us) ≡ Some (WrongTable table))) → (table : TableName) × (first_refusal (t ∷ ts ++ us) ≡ Some (WrongTable table))
-    go true e ih = (o.0.0, rw e (ap Some o.0.1))
-    go false e ih = let q = ih (λ ns. n (e, ns)) in (q.0, rw e q.1)
+first_table (t ∷ ts) us o n = cond_both t.0 (Some t.1) (first_refusal (ts ++ us)) (λ (q : Option Refusal). (table : TableName) × (q ≡ Some (WrongTable table)))
+    (λ e. (o.0.0, ap Some o.0.1)) (λ e. first_table ts us o.1 (λ ns. n (e, ns)))
 
 pub wrong_table : {V : Type 0} (d : V) (pick : ℕ → ℕ → ℕ) (r : Register V) (k : Call V) → (Fits r.head.sizes r.tables → ⊥) → (table : TableName) × (outcome d pick r k ≡ refused (WrongTable table) r)
 wrong_table d pick r k n =

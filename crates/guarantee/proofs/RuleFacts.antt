@@ -1,7 +1,8 @@
 -- Facts about the rules over any tables.
 use Rattle.std.proofs.Common.{◌≡◌, ℕ, zero, suc, ◌+◌, ◌-◌, ◌<◌, ◌≤◌, max, Bool, true, false, cond, not, ◌&&◌, ◌||◌, eqb, ltb, leb, ◌⊎◌, List, [], ◌∷◌, ◌++◌, length, take, drop, None, Ok, Err, Result, sym, refl, ap, ◌∙◌, ap₂, inl, inr, arith}
 use Rattle.std.proofs.lemmas.List.{get_or_default, take_at, drop_at, length-append, length-take-le, length-drop}
-use Rattle.std.proofs.lemmas.Bool.{eqb-true, eqb-false, ne_eqb, both_ways, ltb-false, leb-true, leb-false, cond_both, and_parts, and_from, or_left, or_right, or_cases, not-true}
+use Rattle.std.proofs.lemmas.Bool.{eqb-true, eqb-false, ne_eqb, both_ways, ltb-false, leb-true, leb-false, cond_both, and_parts, and_from, or_left, or_right, or_cases, not-true, cases_eq}
+use Rattle.std.proofs.Math.Logic.{⊎_elim}
 use Rattle.terms.specs.declared.numbers.Place.{Place}
 use Rattle.terms.specs.declared.records.Entry.{Entry}
 use Rattle.terms.specs.declared.refusals.Refusal.{Refusal}
@@ -119,11 +120,9 @@ split e (x ∷ xs) = go (leb x.place.0 e.place.0) refl (split e xs)
 
 length_put_in : (e : Entry) (xs : List Entry) → length (put_in e xs) ≡ length xs + 1
 length_put_in e [] = refl
-length_put_in e (x ∷ xs) = go (leb x.place.0 e.place.0) (length_put_in e xs)
-  where
-    go : (b : Bool) → length (put_in e xs) ≡ length xs + 1 → length (cond b (x ∷ put_in e xs) (e ∷ x ∷ xs)) ≡ suc (length xs) + 1
-    go true ih = omega arith
-    go false ih = omega arith
+length_put_in e (x ∷ xs) =
+    let ih = length_put_in e xs in
+    cond_both (leb x.place.0 e.place.0) _ _ (λ (ys : List Entry). length ys ≡ suc (length xs) + 1) (λ _. omega (arith, ih)) (λ _. omega arith)
 
 inserted : (k : ℕ) (e : Entry) (book : List Entry) → k < length book → (bk : List Entry) × Inserted k e book bk
 inserted k e book l = (
@@ -178,23 +177,11 @@ every_call_can_be_performed V = record {
 
 some_at : (t : ℕ → Bool) (n c : ℕ) → 1 ≤ c → c ≤ n → t c ≡ true → some t n ≡ true
 some_at t zero c a b e = absurd (omega arith)
-some_at t (suc n) c a b e = go (eqb c (suc n)) refl (some_at t n c a)
-  where
-    go : (q : Bool) → eqb c (suc n) ≡ q → (c ≤ n → t c ≡ true → some t n ≡ true) → (t (suc n) || some t n) ≡ true
-    go true q ih = or_left (t (suc n)) (some t n) (rw (← eqb-true c (suc n) q) e)
-    go false q ih = or_right (t (suc n)) (some t n) (ih (omega (arith, eqb-false c (suc n) q)) e)
+some_at t (suc n) c a b e = ⊎_elim (λ q. or_left (t (suc n)) (some t n) (rw (← q) e)) (λ q. or_right (t (suc n)) (some t n) (some_at t n c a (omega (arith, q)) e)) (cases_eq c (suc n))
 
 some_of : (t : ℕ → Bool) (n : ℕ) → some t n ≡ true → (c : ℕ) × (1 ≤ c) × (c ≤ n) × (t c ≡ true)
 some_of t zero e = absurd (both_ways false refl e)
-some_of t (suc n) e = go (or_cases (t (suc n)) (some t n) e) (some_of t n)
-  where
-    go : (t (suc n) ≡ true) ⊎ (some t n ≡ true) → (some t n ≡ true → (c : ℕ) × (1 ≤ c) × (c ≤ n) × (t c ≡ true)) → (c : ℕ) × (1 ≤ c) × (c ≤ suc n) × (t c ≡ true)
-    go (inl q) ih = (suc n, omega arith, omega arith, q)
-    go (inr q) ih = let k = ih q in (k.0, k.1, omega (arith, k.2), k.3)
-
-at_most : (b : Bool) (x y : ℕ) → (b ≡ true → x ≤ y) → cond b x 0 ≤ y
-at_most true x y f = f refl
-at_most false x y f = omega arith
+some_of t (suc n) e = ⊎_elim (λ q. (suc n, omega arith, omega arith, q)) (λ q. let k = some_of t n q in (k.0, k.1, omega (arith, k.2), k.3)) (or_cases (t (suc n)) (some t n) e)
 
 module _ {V : Type 0} (r : Register V) (w : ℕ) where
   abbrev cell : ℕ → ℕ
@@ -216,8 +203,8 @@ module _ {V : Type 0} (r : Register V) (w : ℕ) where
   bounded : (x : ℕ) → AtLeastEach r w x → commit_low r w ≤ x
   bounded x k =
       let l = k.own_low in
-      let p = most_least cell r.head.sizes.cells x (λ c a b. at_most (has_written r w c) (max (at r.tables.written c 0) (at r.tables.read c 0)) x (λ e. omega (arith, k.written_cells c a b e))) in
-      let q = most_least crew r.head.sizes.crews x (λ u a b. at_most (other_reader r w u) (low_of r u + 1) x (λ e. of u a b e)) in omega arith
+      let p = most_least cell r.head.sizes.cells x (λ c a b. cond_both (has_written r w c) _ _ (λ y. y ≤ x) (λ e. omega (arith, k.written_cells c a b e)) (λ _. omega arith)) in
+      let q = most_least crew r.head.sizes.crews x (λ u a b. cond_both (other_reader r w u) _ _ (λ y. y ≤ x) (of u a b) (λ _. omega arith)) in omega arith
     where
       of : (u : ℕ) → 1 ≤ u → u ≤ r.head.sizes.crews → other_reader r w u ≡ true → low_of r u + 1 ≤ x
       of u a b e =

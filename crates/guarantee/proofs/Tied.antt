@@ -2,7 +2,7 @@
 use Rattle.std.proofs.Common.{◌≡◌, ℕ, zero, suc, ◌+◌, ◌-◌, ◌*◌, ◌<◌, ◌≤◌, min, max, Bool, true, false, cond, not, ◌&&◌, ◌||◌, eqb, ltb, List, length, get_or, set, Result, sym, refl, ap, ◌∙◌, subst, ap₂, subst₂, arith}
 use mathlib.Core.Path.{fun_ext}
 use Rattle.std.proofs.lemmas.List.{length-set}
-use Rattle.std.proofs.lemmas.Bool.{eqb-true, eqb-false, ne_eqb, both_ways, ltb-false, and_from}
+use Rattle.std.proofs.lemmas.Bool.{eqb-true, eqb-false, ne_eqb, both_ways, ltb-false, and_from, cond_both}
 use Rattle.terms.specs.declared.numbers.Place.{Place}
 use Rattle.terms.specs.declared.records.JobRecord.{JobRecord}
 use Rattle.terms.specs.declared.records.Standing.TheVariants.{Open as IsOpen}
@@ -79,22 +79,10 @@ tied_lower t j x l h p q = go (is_open j.standing) t refl q
     go false t e q = rw e q
 
 put_same : {A : Type 0} (f : ℕ → A) (k : ℕ) (v : A) → v ≡ f k → (j : ℕ) → updated f k v j ≡ f j
-put_same f k v e j = go (eqb k j) refl
-  where
-    go : (b : Bool) → eqb k j ≡ b → cond b v (f j) ≡ f j
-    go true q = e ∙ ap f (eqb-true k j q)
-    go false q = refl
+put_same f k v e j = cond_both (eqb k j) _ _ (λ x. x ≡ f j) (λ q. e ∙ ap f (eqb-true k j q)) (λ _. refl)
 
 updated_below : (f : ℕ → ℕ) (k v b : ℕ) → v ≤ b → ((u : ℕ) → f u ≤ b) → (u : ℕ) → updated f k v u ≤ b
-updated_below f k v b l h u = go (eqb k u)
-  where
-    go : (t : Bool) → cond t v (f u) ≤ b
-    go true = l
-    go false = h u
-
-lowered_below : (t : Bool) (h p b : ℕ) → h ≤ b → cond t (min h p) h ≤ b
-lowered_below true h p b l = omega arith
-lowered_below false h p b l = l
+updated_below f k v b l h u = cond_both (eqb k u) _ _ (λ x. x ≤ b) (λ _. l) (λ _. h u)
 
 cond_same : {A : Type 0} (b c : Bool) (x x' y y' : A) → b ≡ c → x ≡ x' → y ≡ y' → cond b x y ≡ cond c x' y'
 cond_same b c x x' y y' p q e = rw (p, q, e)
@@ -115,11 +103,8 @@ module _ {V : Type 0} (d : V) (r : Register V) (s : RegisterView V) (tie : Tie d
       (tied_put (eqb w u) k (at xs u closed_record) (s.job u) x' (s.low u) l' (high u) h' p (λ e. q u (λ f. eqb-false w u e (sym f)) a b))
 
   put_crews : (x : ℕ) → (u : ℕ) → 1 ≤ updated s.job w x u → (1 ≤ u) × (u ≤ r.head.sizes.crews)
-  put_crews x u = go (eqb w u) refl
-    where
-      go : (b : Bool) → eqb w u ≡ b → 1 ≤ cond b x (s.job u) → (1 ≤ u) × (u ≤ r.head.sizes.crews)
-      go true e a = let q = eqb-true w u e in (omega (arith, z.from_one), omega (arith, z.to_crews))
-      go false e a = tie.crews u a
+  put_crews x u = cond_both (eqb w u) x (s.job u) (λ k. 1 ≤ k → (1 ≤ u) × (u ≤ r.head.sizes.crews))
+      (λ e _. let q = eqb-true w u e in (omega (arith, z.from_one, q), omega (arith, z.to_crews, q))) (λ _. tie.crews u)
 
   ---- open
 
@@ -346,7 +331,7 @@ module _ {V : Type 0} (d : V) (r : Register V) (s : RegisterView V) (tie : Tie d
     highest_is = omega (arith, tie.highest_is);
     opened_is = omega (arith, tie.opened_is, k.counted);
     active_is = ended_active (of_open k.has).1;
-    under_top = updated_below H w 0 top (omega arith) (λ u. lowered_below (conflicts s w u r.head.sizes.cells) (s.high u) p top (tie.under_top u));
+    under_top = updated_below H w 0 top (omega arith) (λ u. cond_both (conflicts s w u r.head.sizes.cells) _ _ (λ h. h ≤ top) (λ _. omega (arith, tie.under_top u)) (λ _. tie.under_top u));
     fits = record {
       values = length_each _ 1 r.tables.values ∙ z.fits.values;
       written = length_each _ 1 r.tables.written ∙ z.fits.written;
