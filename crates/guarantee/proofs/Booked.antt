@@ -1,7 +1,7 @@
 -- The day book against the history: it names just the ended jobs, in ascending places.
 use Rattle.std.proofs.Common.{◌≡◌, ℕ, suc, Bool, true, false, cond, eqb, ◌⊎◌, List, [], ◌∷◌, ◌++◌, is_some, Some, None, sym, refl, ap, ◌∙◌, inl, inr, arith}
 use Rattle.std.proofs.Math.Logic.{⊎_elim}
-use Rattle.std.proofs.lemmas.Bool.{eqb-true, eq-eqb, ne_eqb, both_ways}
+use Rattle.std.proofs.lemmas.Bool.{eqb-true, eq-eqb, ne_eqb, both_ways, cond_both}
 use Rattle.std.proofs.lemmas.Option.{none-some}
 use Rattle.terms.specs.declared.records.Ending.TheVariants.{Abandoned, Committed}
 use Rattle.terms.specs.declared.records.Entry.{Entry}
@@ -63,12 +63,7 @@ module _ {V : Type 0} where
   ---- an operation that ends no job
 
   ending_plain : (d : Operation V V ℕ) → ends_at d ≡ None → (s : List (Operation V V ℕ)) (b : Bool) → end_place (cond b (d ∷ s) s) ≡ end_place s
-  ending_plain d q s false = refl
-  ending_plain opens q s true = refl
-  ending_plain (reads c v) q s true = refl
-  ending_plain (writes c v) q s true = refl
-  ending_plain (commits p) q s true = absurd (none-some p (sym q))
-  ending_plain (abandons p) q s true = absurd (none-some p (sym q))
+  ending_plain d q s b = cond_both b (d ∷ s) s (λ (t : List (Operation V V ℕ)). end_place t ≡ end_place s) (λ _. rw q refl) (λ _. refl)
 
   pub booked_plain : (run : History V) (w : ℕ) (d : Operation V V ℕ) → WellMade (by w d ∷ run) → ends_at d ≡ None → (es : List Entry) → Booked run es → Booked (by w d ∷ run) es
   booked_plain run w d wm q es k = record {

@@ -16,7 +16,7 @@ use Rattle.history.specs.Values.{ReadsCurrent}
 use Rattle.history.specs.Views.{bounds_of}
 use Rattle.history.specs.WellMade.{WellMade}
 use Rattle.history.proofs.Crews.{well_formed}
-use Rattle.history.proofs.Moments.{numbered, well_formed_tail}
+use Rattle.history.proofs.Moments.{committed_ends, numbered, well_formed_tail}
 use Rattle.history.proofs.Opacity.{bounds_run, tracked}
 use Rattle.history.proofs.Ordering.{Sorted, ascending_is_order, fill, fill_cases, fill_distinct, fill_in, fill_keeps, fill_sorted, insert, keys_ascend, order_respects, sorted_ascending, stands_by_key}
 use Rattle.history.proofs.Rows.{Distinct, distinct_once, in_later, in_nil, in_one}
@@ -60,14 +60,6 @@ module _ {V : Type 0} (h : History V) (k : ℕ → ℕ) where
 ---- Ended jobs
 
 module _ {V : Type 0} where
-  committed_ends : (s : List (Operation V V ℕ)) → is_committed s ≡ true → is_some (end_place s) ≡ true
-  committed_ends [] e = e
-  committed_ends (opens ∷ s) e = committed_ends s e
-  committed_ends (reads c v ∷ s) e = committed_ends s e
-  committed_ends (writes c v ∷ s) e = committed_ends s e
-  committed_ends (commits p ∷ s) e = refl
-  committed_ends (abandons p ∷ s) e = refl
-
   ended_numbered : (h : History V) → WellFormed h → (x : ℕ) → has_ended h x ≡ true → (1 ≤ x) × (x ≤ openings h)
   ended_numbered h pr x q = numbered h pr x (λ e. both_ways (has_ended h x) (ap (λ s. is_some (end_place s)) e) q)
 

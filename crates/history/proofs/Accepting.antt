@@ -14,8 +14,8 @@ use Rattle.history.specs.WellMade.{WellMade, Calls, InRange, asked}
 use Rattle.history.specs.Views.{RegisterView, fresh_view, conflicts, Accepts, updated, view_after}
 use Rattle.history.specs.Views.ViewRun.{starts, goes_on}
 use Rattle.history.specs.Acceptance.{AcceptedAt, positions, places_of}
-use Rattle.history.proofs.Moments.{precedes_later, read_later, committed_later, unopened_projection}
-use Rattle.history.proofs.Tracking.{ended_place, active_unplaced}
+use Rattle.history.proofs.Moments.{precedes_later, read_later, committed_later, active_unplaced, unopened_projection}
+use Rattle.history.proofs.Tracking.{ended_place}
 use Rattle.history.proofs.Crews.{openings_by_job, openings_tail, one_crew, open_job_active, well_formed}
 use Rattle.history.proofs.Viewing.{ViewFacts, flag_when_written, written_when_flag, RunFacts, run_facts}
 use Rattle.history.proofs.Alike.{Alike, alike_sym, precedes_alike, openings_alike, job_alike, by_jobs_alike, calls_alike}

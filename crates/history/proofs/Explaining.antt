@@ -1,7 +1,7 @@
 -- Serial execution in a respectful row explains what was told: by induction on one more event of the history, with the row as it is.
 use Rattle.std.proofs.Common.{◌≡◌, ℕ, Bool, true, false, cond, eqb, List, [], ◌∷◌, Some, None, Option, unwrap_or, sym, refl, ap, ◌∙◌, ap₂, inl, inr}
-use Rattle.std.proofs.lemmas.Bool.{eqb-true, eq-eqb, cond_both}
-use Rattle.history.specs.Events.{Operation, Event, History}
+use Rattle.std.proofs.lemmas.Bool.{eqb-true, eq-eqb, cond_both, or_right}
+use Rattle.history.specs.Events.{Operation, Event, History, is_commit}
 use Rattle.history.specs.Events.Operation.{opens, reads, writes, commits, abandons}
 use Rattle.history.specs.Events.Event.{by}
 use Rattle.history.specs.Projections.{projection, buffered, is_committed, WellFormed}
@@ -54,12 +54,7 @@ module _ {V : Type 0} (first : ℕ → V) where
   no_breach_tail a h row r y ea x eb s t b = r y ea x eb s t (precedes_later a b)
 
   still_committed : (d : Operation V V ℕ) (s : List (Operation V V ℕ)) (b : Bool) → is_committed s ≡ true → is_committed (cond b (d ∷ s) s) ≡ true
-  still_committed d s false q = q
-  still_committed opens s true q = q
-  still_committed (reads c v) s true q = q
-  still_committed (writes c v) s true q = q
-  still_committed (commits p) s true q = refl
-  still_committed (abandons p) s true q = q
+  still_committed d s b q = cond_both b (d ∷ s) s (λ t. is_committed t ≡ true) (λ _. or_right (is_commit d) (is_committed s) q) (λ _. q)
 
   has_committed_tail : (a : Event V V ℕ) (h : History V) (row : List ℕ) → HasCommitted (a ∷ h) row → HasCommitted h row
   unfolding HasCommitted

@@ -1,12 +1,12 @@
 -- What a projection says of the history: from a job's own operations to the moments at which they occur.
-use Rattle.std.proofs.Common.{◌≡◌, ℕ, zero, suc, ◌<◌, ◌≤◌, Bool, true, false, cond, eqb, ◌⊎◌, List, [], ◌∷◌, Some, None, Option, sym, refl, ap, ◌∙◌, subst, inl, inr, arith}
+use Rattle.std.proofs.Common.{◌≡◌, ℕ, zero, suc, ◌<◌, ◌≤◌, Bool, true, false, cond, eqb, ◌⊎◌, List, [], ◌∷◌, is_some, Some, None, Option, sym, refl, ap, ◌∙◌, subst, inl, inr, arith}
 use Rattle.std.proofs.Math.Logic.{⊎_elim}
-use Rattle.std.proofs.lemmas.Bool.{eqb-true, eq-eqb, ne_eqb, both_ways, cases_lt, cond_both}
+use Rattle.std.proofs.lemmas.Bool.{eqb-true, eq-eqb, ne_eqb, both_ways, cases_lt, cond_both, false_from_ne_true}
 use Rattle.std.proofs.lemmas.Option.{none-some}
 use Rattle.history.specs.Events.{Operation, Event, Events, History, openings}
 use Rattle.history.specs.Events.Operation.{opens, reads, writes, commits, abandons}
 use Rattle.history.specs.Events.Event.{by}
-use Rattle.history.specs.Projections.{projection, buffered, is_committed, is_active, WellFormed}
+use Rattle.history.specs.Projections.{projection, buffered, is_committed, is_active, end_place, WellFormed}
 use Rattle.history.specs.Precedence.{Extends, Occurs, Wrote, ReadGlobally, CommittedCell, Precedes}
 use Rattle.history.specs.Precedence.Extends.{here, later}
 use Rattle.history.specs.Precedence.Precedes.{real_time, committed_read, read_committed, committed_committed}
@@ -72,38 +72,59 @@ module _ {V : Type 0} where
   unfolding IsBuffered
   unbuffered_unwritten h x c q w = let k = buffered_when_written x c w.value w.before h w.occurs in none-some k.0 (sym q ∙ k.1)
 
-  -- a job that has not opened has an empty projection
-  active_numbered : (h : History V) (y : ℕ) → ((x : ℕ) → openings h < x → projection h x ≡ []) → is_active (projection h y) ≡ true → (x : ℕ) → openings h < x → (y ≡ x → ⊥)
+  -- a number that no job has: 0, or above the count of openings
+  abbrev Unnumbered : History V → ℕ → Type 0
+  Unnumbered h x = 1 ≤ x → openings h < x
+
+  active_numbered : (h : History V) (y : ℕ) → ((x : ℕ) → Unnumbered h x → projection h x ≡ []) → is_active (projection h y) ≡ true → (x : ℕ) → Unnumbered h x → y ≡ x → ⊥
   active_numbered h y fr o x l e = both_ways (is_active (projection h y)) (ap is_active (fr y (rw e l))) o
 
   projection_other : (y x : ℕ) (h : History V) (d : Operation V V ℕ) → (y ≡ x → ⊥) → projection h x ≡ [] → projection (by y d ∷ h) x ≡ []
   projection_other y x h d n q = rw (ne_eqb y x n) q
 
-  pub unopened_projection : (h : History V) → WellFormed h → (x : ℕ) → openings h < x → projection h x ≡ []
-  unopened_projection [] wf x l = refl
-  unopened_projection (by y opens ∷ h) wf x l = projection_other y x h opens (λ e. omega arith) (unopened_projection h wf.1 x (omega arith))
-  unopened_projection (by y (reads c v) ∷ h) wf x l = projection_other y x h (reads c v) (active_numbered h y (unopened_projection h wf.1) wf.0 x l) (unopened_projection h wf.1 x l)
-  unopened_projection (by y (writes c v) ∷ h) wf x l = projection_other y x h (writes c v) (active_numbered h y (unopened_projection h wf.1) wf.0 x l) (unopened_projection h wf.1 x l)
-  unopened_projection (by y (commits c) ∷ h) wf x l = projection_other y x h (commits c) (active_numbered h y (unopened_projection h wf.1) wf.0 x l) (unopened_projection h wf.1 x l)
-  unopened_projection (by y (abandons c) ∷ h) wf x l = projection_other y x h (abandons c) (active_numbered h y (unopened_projection h wf.1) wf.0 x l) (unopened_projection h wf.1 x l)
+  unnumbered_projection : (h : History V) → WellFormed h → (x : ℕ) → Unnumbered h x → projection h x ≡ []
+  unnumbered_projection [] wf x l = refl
+  unnumbered_projection (by y opens ∷ h) wf x l = projection_other y x h opens (λ e. let k = l (omega arith) in omega arith) (unnumbered_projection h wf.1 x (λ a. let k = l a in omega arith))
+  unnumbered_projection (by y (reads c v) ∷ h) wf x l = projection_other y x h (reads c v) (active_numbered h y (unnumbered_projection h wf.1) wf.0 x l) (unnumbered_projection h wf.1 x l)
+  unnumbered_projection (by y (writes c v) ∷ h) wf x l = projection_other y x h (writes c v) (active_numbered h y (unnumbered_projection h wf.1) wf.0 x l) (unnumbered_projection h wf.1 x l)
+  unnumbered_projection (by y (commits p) ∷ h) wf x l = projection_other y x h (commits p) (active_numbered h y (unnumbered_projection h wf.1) wf.0 x l) (unnumbered_projection h wf.1 x l)
+  unnumbered_projection (by y (abandons p) ∷ h) wf x l = projection_other y x h (abandons p) (active_numbered h y (unnumbered_projection h wf.1) wf.0 x l) (unnumbered_projection h wf.1 x l)
 
-  -- an active job has not committed
+  pub unopened_projection : (h : History V) → WellFormed h → (x : ℕ) → openings h < x → projection h x ≡ []
+  unopened_projection h wf x l = unnumbered_projection h wf x (λ _. l)
+
+  pub projection_zero : (h : History V) → WellFormed h → projection h 0 ≡ []
+  projection_zero h wf = unnumbered_projection h wf 0 (λ l. absurd (omega arith))
+
   pub well_formed_tail : (a : Event V V ℕ) (h : History V) → WellFormed (a ∷ h) → WellFormed h
   well_formed_tail (by x o) h wf = wf.1
 
-  active_step : (y x : ℕ) (h : History V) (d : Operation V V ℕ) (b : Bool) → eqb y x ≡ b → WellFormed (by y d ∷ h) →
-      (is_active (projection h x) ≡ true → is_committed (projection h x) ≡ false) → is_active (cond b (d ∷ projection h x) (projection h x)) ≡ true →
-      is_committed (cond b (d ∷ projection h x) (projection h x)) ≡ false
-  active_step y x h d false e wf ih o = ih o
-  active_step y x h opens true e wf ih o = ap is_committed (unopened_projection h wf.1 x (omega (arith, eqb-true y x e)))
-  active_step y x h (reads c v) true e wf ih o = ih o
-  active_step y x h (writes c v) true e wf ih o = ih o
-  active_step y x h (commits c) true e wf ih o = sym o
-  active_step y x h (abandons c) true e wf ih o = absurd (both_ways false refl o)
+  -- an active job has no place
+  active_unplaced_step : (y x : ℕ) (h : History V) (d : Operation V V ℕ) (b : Bool) → eqb y x ≡ b → WellFormed (by y d ∷ h) →
+      (is_active (projection h x) ≡ true → end_place (projection h x) ≡ None) → is_active (cond b (d ∷ projection h x) (projection h x)) ≡ true →
+      end_place (cond b (d ∷ projection h x) (projection h x)) ≡ None
+  active_unplaced_step y x h d false e wf ih o = ih o
+  active_unplaced_step y x h opens true e wf ih o = ap end_place (unopened_projection h wf.1 x (omega (arith, eqb-true y x e)))
+  active_unplaced_step y x h (reads c v) true e wf ih o = ih o
+  active_unplaced_step y x h (writes c v) true e wf ih o = ih o
+  active_unplaced_step y x h (commits c) true e wf ih o = absurd (both_ways false refl o)
+  active_unplaced_step y x h (abandons c) true e wf ih o = absurd (both_ways false refl o)
+
+  pub active_unplaced : (h : History V) → WellFormed h → (x : ℕ) → is_active (projection h x) ≡ true → end_place (projection h x) ≡ None
+  active_unplaced [] wf x o = refl
+  active_unplaced (by y d ∷ h) wf x o = active_unplaced_step y x h d (eqb y x) refl wf (active_unplaced h (well_formed_tail (by y d) h wf) x) o
+
+  -- a committed job has a place
+  pub committed_ends : (s : List (Operation V V ℕ)) → is_committed s ≡ true → is_some (end_place s) ≡ true
+  committed_ends [] e = e
+  committed_ends (opens ∷ s) e = committed_ends s e
+  committed_ends (reads c v ∷ s) e = committed_ends s e
+  committed_ends (writes c v ∷ s) e = committed_ends s e
+  committed_ends (commits p ∷ s) e = refl
+  committed_ends (abandons p ∷ s) e = refl
 
   pub active_uncommitted : (h : History V) → WellFormed h → (x : ℕ) → is_active (projection h x) ≡ true → is_committed (projection h x) ≡ false
-  active_uncommitted [] wf x o = refl
-  active_uncommitted (by y d ∷ h) wf x o = active_step y x h d (eqb y x) refl wf (active_uncommitted h (well_formed_tail (by y d) h wf) x) o
+  active_uncommitted h wf x o = false_from_ne_true (is_committed (projection h x)) (λ q. both_ways (is_some (end_place (projection h x))) (ap is_some (active_unplaced h wf x o)) (committed_ends (projection h x) q))
 
   -- what a job installs it has committed
   installs_step : (y x c : ℕ) (h : History V) (d : Operation V V ℕ) (b : Bool) (v : V) → eqb y x ≡ b → WellFormed (by y d ∷ h) →
@@ -148,17 +169,6 @@ module _ {V : Type 0} where
   pub first_hand_read : (h : History V) (x c : ℕ) → FirstHand (projection h x) c → ReadGlobally h x c
   first_hand_read [] x c f = absurd f
   first_hand_read (by y d ∷ h) x c f = first_hand_step y x c h d (eqb y x) refl (first_hand_read h x c) f
-
-  active_not_zero : (h : History V) (y : ℕ) → projection h 0 ≡ [] → is_active (projection h y) ≡ true → y ≡ 0 → ⊥
-  active_not_zero h y z o e = both_ways (is_active (projection h y)) (rw e (ap is_active z)) o
-
-  pub projection_zero : (h : History V) → WellFormed h → projection h 0 ≡ []
-  projection_zero [] wf = refl
-  projection_zero (by y opens ∷ h) wf = projection_other y 0 h opens (λ e. omega arith) (projection_zero h wf.1)
-  projection_zero (by y (reads c v) ∷ h) wf = projection_other y 0 h (reads c v) (active_not_zero h y (projection_zero h wf.1) wf.0) (projection_zero h wf.1)
-  projection_zero (by y (writes c v) ∷ h) wf = projection_other y 0 h (writes c v) (active_not_zero h y (projection_zero h wf.1) wf.0) (projection_zero h wf.1)
-  projection_zero (by y (commits p) ∷ h) wf = projection_other y 0 h (commits p) (active_not_zero h y (projection_zero h wf.1) wf.0) (projection_zero h wf.1)
-  projection_zero (by y (abandons p) ∷ h) wf = projection_other y 0 h (abandons p) (active_not_zero h y (projection_zero h wf.1) wf.0) (projection_zero h wf.1)
 
   -- a job that has done something has a number from 1 up to the count of openings
   pub numbered : (h : History V) → WellFormed h → (x : ℕ) → (projection h x ≡ [] → ⊥) → (1 ≤ x) × (x ≤ openings h)

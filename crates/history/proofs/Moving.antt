@@ -9,9 +9,9 @@ use Rattle.history.specs.Projections.{projection, is_active, end_place}
 use Rattle.history.specs.Precedence.{ReadGlobally}
 use Rattle.history.specs.WellMade.{WellMade}
 use Rattle.history.specs.Bounds.{Bounds, bounds_by_job, Narrows, OwnBounds, CrewMoves}
-use Rattle.history.proofs.Moments.{unopened_projection}
+use Rattle.history.proofs.Moments.{active_unplaced, unopened_projection}
 use Rattle.history.proofs.JobBounds.{ClosesIn, SeesTo, Moves}
-use Rattle.history.proofs.Tracking.{active_unplaced, reader_active}
+use Rattle.history.proofs.Tracking.{reader_active}
 use Rattle.history.proofs.Crews.{openings_by_job, open_job_active, well_formed, crew_of_open_job, active_positive, active_has_crew}
 
 closes_same : (o : Option ℕ) (l u l' u' : ℕ) → l ≤ l' → u' ≤ u → ClosesIn o l u o l' u'

@@ -1,6 +1,7 @@
 -- One more call that moves the bounds as it should keeps them in agreement with the history.
 use Rattle.std.proofs.Common.{◌≡◌, ℕ, ◌<◌, ◌≤◌, Bool, true, false, cond, eqb, ◌⊎◌, List, [], ◌∷◌, Some, None, Option, sym, refl, ap, ◌∙◌, subst, inl, inr, arith}
-use Rattle.std.proofs.lemmas.Bool.{eqb-true, eq-eqb, ne_eqb, both_ways}
+use Rattle.std.proofs.lemmas.Bool.{eqb-true, eq-eqb, ne_eqb, both_ways, cond_both}
+use Rattle.std.specs.Option.{option_or}
 use Rattle.std.proofs.Math.Logic.{⊎_elim}
 use Rattle.std.proofs.lemmas.Option.{none-some}
 use Rattle.history.specs.Events.{Operation, Event, History, ends_at}
@@ -11,7 +12,7 @@ use Rattle.history.specs.Precedence.{Extends, Occurs, Wrote, ReadGlobally, Commi
 use Rattle.history.specs.Precedence.Extends.{here, later}
 use Rattle.history.specs.Precedence.Precedes.{real_time, committed_read, read_committed, committed_committed}
 use Rattle.history.specs.Bounds.{PlacedApart, Bounds, Tracked}
-use Rattle.history.proofs.Moments.{unopened_projection, well_formed_tail}
+use Rattle.history.proofs.Moments.{active_unplaced, unopened_projection, well_formed_tail}
 use Rattle.history.proofs.JobBounds.{ClosesIn, SeesTo, Moves}
 
 -- bounds that close in keep jobs apart
@@ -98,13 +99,12 @@ module _ {V : Type 0} where
   abbrev pub Ends : List (Operation V V ℕ) → Type 0
   Ends s = (p : ℕ) × (end_place s ≡ Some p)
 
+  ends_more : (o : Option ℕ) (s : List (Operation V V ℕ)) → Ends s → (p : ℕ) × (option_or o (end_place s) ≡ Some p)
+  ends_more (Some p) s q = (p, refl)
+  ends_more None s q = q
+
   ends_step : (d : Operation V V ℕ) (s : List (Operation V V ℕ)) (b : Bool) → Ends s → Ends (cond b (d ∷ s) s)
-  ends_step d s false q = q
-  ends_step opens s true q = q
-  ends_step (reads k w) s true q = q
-  ends_step (writes k w) s true q = q
-  ends_step (commits p) s true q = (p, refl)
-  ends_step (abandons p) s true q = (p, refl)
+  ends_step d s b q = cond_both b (d ∷ s) s Ends (λ _. ends_more (ends_at d) s q) (λ _. q)
 
   place_when_ended : (x : ℕ) (d : Operation V V ℕ) (g h : History V) → Ends (d ∷ projection g x) → Extends h (by x d ∷ g) → Ends (projection h x)
   place_when_ended x d g h q here = rw (eq-eqb x x refl) q
@@ -115,21 +115,6 @@ module _ {V : Type 0} where
 
   pub committed_place : (h : History V) (x c : ℕ) → CommittedCell h x c → Ends (projection h x)
   committed_place h x c k = place_when_ended x (commits k.place) k.before h (k.place, refl) k.occurs
-
-  -- an active job has no place
-  active_unplaced_step : (y x : ℕ) (h : History V) (d : Operation V V ℕ) (b : Bool) → eqb y x ≡ b → WellFormed (by y d ∷ h) →
-      (is_active (projection h x) ≡ true → end_place (projection h x) ≡ None) → is_active (cond b (d ∷ projection h x) (projection h x)) ≡ true →
-      end_place (cond b (d ∷ projection h x) (projection h x)) ≡ None
-  active_unplaced_step y x h d false e wf ih o = ih o
-  active_unplaced_step y x h opens true e wf ih o = ap end_place (unopened_projection h wf.1 x (omega (arith, eqb-true y x e)))
-  active_unplaced_step y x h (reads c v) true e wf ih o = ih o
-  active_unplaced_step y x h (writes c v) true e wf ih o = ih o
-  active_unplaced_step y x h (commits c) true e wf ih o = absurd (both_ways false refl o)
-  active_unplaced_step y x h (abandons c) true e wf ih o = absurd (both_ways false refl o)
-
-  pub active_unplaced : (h : History V) → WellFormed h → (x : ℕ) → is_active (projection h x) ≡ true → end_place (projection h x) ≡ None
-  active_unplaced [] wf x o = refl
-  active_unplaced (by y d ∷ h) wf x o = active_unplaced_step y x h d (eqb y x) refl wf (active_unplaced h (well_formed_tail (by y d) h wf) x) o
 
   -- who acts has no place yet
   pub acting_unplaced : (h : History V) (x : ℕ) (d : Operation V V ℕ) → WellFormed (by x d ∷ h) → end_place (projection h x) ≡ None
@@ -143,11 +128,11 @@ module _ {V : Type 0} where
   place_step : (h : History V) (x z p : ℕ) (d : Operation V V ℕ) (b : Bool) → eqb x z ≡ b → end_place (projection h z) ≡ None →
       end_place (cond b (d ∷ projection h z) (projection h z)) ≡ Some p → (x ≡ z) × (ends_at d ≡ Some p)
   place_step h x z p d false e n q = absurd (none-some p (sym n ∙ q))
-  place_step h x z p opens true e n q = absurd (none-some p (sym n ∙ q))
-  place_step h x z p (reads c v) true e n q = absurd (none-some p (sym n ∙ q))
-  place_step h x z p (writes c v) true e n q = absurd (none-some p (sym n ∙ q))
-  place_step h x z p (commits k) true e n q = (eqb-true x z e, q)
-  place_step h x z p (abandons k) true e n q = (eqb-true x z e, q)
+  place_step h x z p d true e n q = (eqb-true x z e, or_none (ends_at d) ∙ (ap (option_or (ends_at d)) (sym n) ∙ q))
+    where
+      or_none : (o : Option ℕ) → o ≡ option_or o None
+      or_none (Some k) = refl
+      or_none None = refl
 
   pub commits_by : (h : History V) (x z c : ℕ) (d : Operation V V ℕ) → CommitsNow (by x d) h z c → x ≡ z
   commits_by h x z c opens m = absurd m
