@@ -33,7 +33,7 @@ use Rattle.guarantee.proofs.Bounding.{commit_low_bound}
 use Rattle.guarantee.proofs.Counting.{busy_at}
 use Rattle.guarantee.proofs.Invariant.{tie_book}
 use Rattle.guarantee.proofs.Opacity.{b}
-use Rattle.guarantee.proofs.Passing.{NoneOf, Sized, Working, not_damaged}
+use Rattle.guarantee.proofs.Passing.{NoneOf, Sized, Working, not_damaged, read_by}
 use Rattle.guarantee.proofs.Tied.{Tie, Tied, of_open, tie_abandon, tie_cell, tie_commit, tie_open, tie_own, tie_write, tied_by_job}
 
 abbrev pub sizes_of : {V : Type 0} → Register V → Sizes
@@ -143,11 +143,10 @@ module _ {V : Type 0} (d : V) (q : Register V) (view : RegisterView V) (g : Mean
 
   step_read : (w : CrewNumber) (c : CellNumber) (v : V) → AcceptsWith g z view w.0 (reads c.0 v) → Done (outcome d (f []) r (Read w c)) (view_after top z.cells view w.0 (reads c.0 v)) g
   step_read w c v sv = subst G (sym (passes_work (Read w c) refl (within r.head.sizes.cells c.0 sv.1.0 in_n) sv.0))
-      (cond_both (has_written r w.0 c.0) _ _ G
+      (read_by G d (f []) r w.0 c.0
       (λ e. done_own w.0 c.0 v sv.0.a_crew sv.1.0 in_n e)
-      (λ e. cond_both (ltb (high_of r w.0) (raised_low r w.0 c.0 + 2)) _ _ G
-      (λ l. absurd (omega (arith, ltb-true (high_of r w.0) (raised_low r w.0 c.0 + 2) l, sv.3 (sym (ab.tie.writes_are w.0 c.0 s.from_one s.to_crews sv.1.0 in_n) ∙ e), o.2, o.3, ab.tie.written_is c.0 sv.1.0 in_n)))
-      (λ l. done_cell w.0 c.0 v sv.0.a_crew wk sv.1.0 in_n e)))
+      (λ e l. absurd (omega (arith, ltb-true (high_of r w.0) (raised_low r w.0 c.0 + 2) l, sv.3 (sym (ab.tie.writes_are w.0 c.0 s.from_one s.to_crews sv.1.0 in_n) ∙ e), o.2, o.3, ab.tie.written_is c.0 sv.1.0 in_n)))
+      (λ e l. done_cell w.0 c.0 v sv.0.a_crew wk sv.1.0 in_n e))
     where
       G : Outcome V → Type 0
       G = λ o. Done o (view_after top z.cells view w.0 (reads c.0 v)) g

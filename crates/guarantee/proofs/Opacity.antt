@@ -32,7 +32,7 @@ use Rattle.rules.specs.Tables.{row}
 use Rattle.guarantee.specs.Histories.{Numbered, history_of}
 use Rattle.guarantee.specs.Opacity.{DayBookExplains, EveryMomentIsOpaque, EveryRunIsOpaque, Names, OrderExplains, cell_values, day_book, ended_part, has_ended, order_of}
 use Rattle.guarantee.proofs.Booked.{only_ended}
-use Rattle.guarantee.proofs.Invariant.{Inv, at_start, performed}
+use Rattle.guarantee.proofs.Invariant.{Inv, at_start, facts_of, performed}
 use Rattle.guarantee.proofs.Orders.{in_either}
 
 ---- Rows in ascending keys
@@ -82,13 +82,13 @@ module _ {V : Type 0} where
 
 module _ {V : Type 0} (d : V) (s : Register V) (run : History V) (r : Register V) (f : Meaning) (inv : Inv d s run r f) where
   wm : WellMade run
-  wm = (run_facts top r.head.sizes.cells (cell_values d s) (own_of d s) inv.went).well_made
+  wm = (facts_of inv).well_made
 
   pr : WellFormed (by_jobs run)
   pr = well_formed run wm
 
   tr : ReadsCurrent (cell_values d s) (by_jobs run)
-  tr = (run_facts top r.head.sizes.cells (cell_values d s) (own_of d s) inv.went).reads_current
+  tr = (facts_of inv).reads_current
 
   abbrev pub b : Bounds
   b = bounds_by_job top run (bounds_of inv.view)
@@ -135,7 +135,7 @@ module _ {V : Type 0} (d : V) (s : Register V) (run : History V) (r : Register V
   -- the cells have the values that an order leaves where it explains
   held : (order : List ℕ) → SeriallyExplained (cell_values d s) (by_jobs run) order → (c : ℕ) → 1 ≤ c → c ≤ r.head.sizes.cells →
       execute_serially (projection (by_jobs run)) (cell_values d s) order c ≡ cell_values d r c
-  held order done c a z = done.same_left c ∙ (sym ((run_facts top r.head.sizes.cells (cell_values d s) (own_of d s) inv.went).view_facts.value_is c) ∙ sym (inv.tie.value_is c a z))
+  held order done c a z = done.same_left c ∙ (sym ((facts_of inv).view_facts.value_is c) ∙ sym (inv.tie.value_is c a z))
 
   -- all jobs: the day book's order with the open jobs sorted in at low + 1
   abbrev whole : List ℕ

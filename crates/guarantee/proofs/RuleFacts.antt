@@ -20,7 +20,8 @@ use Rattle.rules.specs.declared.calls.Call.TheVariants.{Abandon, Commit, Open, R
 use Rattle.rules.proofs.Changing.{inside, most_at, most_least, spot_in}
 use Rattle.guarantee.specs.RuleFacts.{AtLeastEach, CommitBoundIsLargest, EveryCallCanBePerformed, NoOutcomeDependsOnDefault, ReadsWritten, SoundHead}
 use Rattle.guarantee.proofs.Opacity.{b}
-use Rattle.guarantee.proofs.Passing.{NoneOf, Sized, Working, cell_passes, free, outcome_by, same_outcome, sized, working}
+use Rattle.guarantee.proofs.Orders.{all_map}
+use Rattle.guarantee.proofs.Passing.{NoneOf, Sized, Working, cell_passes, commit_by, free, outcome_by, read_by, same_outcome, sized, working}
 
 each_same : {A : Type 0} (f g : ℕ → A → A) (k : ℕ) (xs : List A) → ((c : ℕ) (x : A) → k ≤ c → c < k + length xs → f c x ≡ g c x) → each_from k f xs ≡ each_from k g xs
 each_same f g k [] h = refl
@@ -71,12 +72,11 @@ module _ {V : Type 0} (d : V) (f : Meaning) (r : Register V) (ke : KeepsLaw f) (
 
   sound_accepted : (k : Call V) → NoneOf (tests_of r k) → SoundHead (accepted d (f []) r k).left.head
   sound_accepted (Open w) ns = record { under_top = so.under_top; in_book = let q = eqb-false (r.head.ended + r.head.active) r.head.sizes.entries (free r w ns).entries_left in omega (arith, so.in_book) }
-  sound_accepted (Read w c) ns = cond_both (has_written r w.0 c.0) _ _ (λ (o : Outcome V). SoundHead o.left.head) (λ e. so)
-      (λ e. cond_both (ltb (high_of r w.0) (raised_low r w.0 c.0 + 2)) _ _ (λ (o : Outcome V). SoundHead o.left.head)
-      (λ l. sound_up w.0 (λ p. Err (Stale p)) (working r (Read w c) refl ns))
-      (λ l. record { under_top = so.under_top; in_book = so.in_book }))
+  sound_accepted (Read w c) ns = read_by (λ (o : Outcome V). SoundHead o.left.head) d (f []) r w.0 c.0 (λ e. so)
+      (λ e l. sound_up w.0 (λ p. Err (Stale p)) (working r (Read w c) refl ns))
+      (λ e l. record { under_top = so.under_top; in_book = so.in_book })
   sound_accepted (Write w c v) ns = record { under_top = so.under_top; in_book = so.in_book }
-  sound_accepted (Commit w) ns = cond_both (ltb (high_of r w.0) (commit_low r w.0 + 2)) _ _ (λ (o : Outcome V). SoundHead o.left.head) (λ l. sound_up w.0 (λ p. Err (NoPlace p)) wk)
+  sound_accepted (Commit w) ns = commit_by (λ (o : Outcome V). SoundHead o.left.head) d (f []) r w.0 (λ l. sound_up w.0 (λ p. Err (NoPlace p)) wk)
       (λ l. let b = sound_end w.0 (f [] (commit_low r w.0) (high_of r w.0)) wk (ke.between [] (commit_low r w.0) (high_of r w.0) (ltb-false (high_of r w.0) (commit_low r w.0 + 2) l)).1 in record { under_top = b.0; in_book = b.1 })
     where
       wk : Working r w.0
@@ -101,10 +101,6 @@ split : (e : Entry) (xs : List Entry) → Split e xs
 split e [] = record { front = []; back = []; was = refl; is = refl; in_place = λ c. (tt, tt) }
 split e (x ∷ xs) = go (leb x.place.0 e.place.0) refl (split e xs)
   where
-    above : (ys : List Entry) → e.place.0 ≤ x.place.0 → All (NotAbove x) ys → All (NotAbove e) ys
-    above [] l a = tt
-    above (y ∷ ys) l a = (omega (arith, a.0), above ys l a.1)
-
     joined : (b : Bool) → leb x.place.0 e.place.0 ≡ b → put_in e (x ∷ xs) ≡ cond b (x ∷ put_in e xs) (e ∷ x ∷ xs)
     joined b q = ap (λ (t : Bool). cond t (x ∷ put_in e xs) (e ∷ x ∷ xs)) q
 
@@ -116,7 +112,7 @@ split e (x ∷ xs) = go (leb x.place.0 e.place.0) refl (split e xs)
       is = joined true q ∙ ap (λ (ys : List Entry). x ∷ ys) s.is;
       in_place = λ c. let p = s.in_place c.1 in ((leb-true x.place.0 e.place.0 q, p.0), p.1);
     }
-    go false q s = let l = leb-false x.place.0 e.place.0 q in record { front = []; back = x ∷ xs; was = refl; is = joined false q; in_place = λ c. (tt, (omega arith, above xs (omega arith) c.0)) }
+    go false q s = let l = leb-false x.place.0 e.place.0 q in record { front = []; back = x ∷ xs; was = refl; is = joined false q; in_place = λ c. (tt, (omega arith, all_map (NotAbove x) (NotAbove e) xs (λ y a. omega (arith, a, l)) c.0)) }
 
 length_put_in : (e : Entry) (xs : List Entry) → length (put_in e xs) ≡ length xs + 1
 length_put_in e [] = refl
@@ -153,11 +149,9 @@ module _ {V : Type 0} (d : V) (f : Meaning) (r : Register V) (so : SoundHead r.h
 
   can : (k : Call V) → NoneOf (tests_of r k) → Can (accepted d (f []) r k)
   can (Open w) ns = (r.tables.book, refl)
-  can (Read w c) ns = cond_both (has_written r w.0 c.0) _ _ Can (λ e. (r.tables.book, refl))
-      (λ e. cond_both (ltb (high_of r w.0) (raised_low r w.0 c.0 + 2)) _ _ Can
-      (λ l. can_end w.0 _ (working r (Read w c) refl ns) (sized r (Read w c) ns).fits.book) (λ l. (r.tables.book, refl)))
+  can (Read w c) ns = read_by Can d (f []) r w.0 c.0 (λ e. (r.tables.book, refl)) (λ e l. can_end w.0 _ (working r (Read w c) refl ns) (sized r (Read w c) ns).fits.book) (λ e l. (r.tables.book, refl))
   can (Write w c v) ns = (r.tables.book, refl)
-  can (Commit w) ns = cond_both (ltb (high_of r w.0) (commit_low r w.0 + 2)) _ _ Can (λ l. can_end w.0 _ wk (sized r (Commit w) ns).fits.book) (λ l. can_end w.0 _ wk (sized r (Commit w) ns).fits.book)
+  can (Commit w) ns = commit_by Can d (f []) r w.0 (λ l. can_end w.0 _ wk (sized r (Commit w) ns).fits.book) (λ l. can_end w.0 _ wk (sized r (Commit w) ns).fits.book)
     where
       wk : Working r w.0
       wk = working r (Commit w) refl ns
