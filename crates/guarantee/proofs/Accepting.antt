@@ -1,6 +1,6 @@
 -- Where the view accepts a call, the register accepts it, and goes on abreast of the view.
 use Rattle.std.proofs.Common.{◌≡◌, ℕ, ◌+◌, ◌≤◌, Bool, true, false, cond, not, ◌&&◌, eqb, ltb, List, [], ◌∷◌, length, None, Ok, Err, Option, Result, sym, refl, ap, ◌∙◌, subst, ap₂, subst₂, arith}
-use Rattle.std.proofs.lemmas.Bool.{ne_eqb, le-ltb, or_from, ltb-true, cond_both}
+use Rattle.std.proofs.lemmas.Bool.{ne_eqb, le-ltb, or_from, ltb-true, false_from_ne_true}
 use Rattle.terms.specs.declared.numbers.CellNumber.{CellNumber}
 use Rattle.terms.specs.declared.numbers.CrewNumber.{CrewNumber}
 use Rattle.terms.specs.declared.records.Entry.{Entry}
@@ -51,10 +51,6 @@ none_refused (t ∷ ts) ns = rw ns.0 (none_refused ts ns.1)
 
 within : (n k : ℕ) → 1 ≤ k → k ≤ n → outside n k ≡ false
 within n k a b = or_from (eqb k 0) (ltb n k) (ne_eqb k 0 (λ e. omega arith)) (le-ltb n k b)
-
-closed_job : (b : Bool) (j : _) (x l h : ℕ) → Tied b j x l h → x ≡ 0 → b ≡ false
-closed_job true j x l h t e = absurd (omega (arith, t.1))
-closed_job false j x l h t e = refl
 
 module _ {V : Type 0} (d : V) (q : Register V) (view : RegisterView V) (g : Meaning) (r : Register V) (f : Meaning) (ab : Abreast d q view g r f) where
   abbrev z : Sizes
@@ -125,7 +121,7 @@ module _ {V : Type 0} (d : V) (q : Register V) (view : RegisterView V) (g : Mean
   step_open : (w : CrewNumber) → AcceptsWith g z view w.0 opens → Done (outcome d (f []) r (Open w)) (view_after top z.cells view w.0 opens) g
   step_open w sv =
       let s = sized w.0 sv.0 in
-      let h = closed_job (has_job r w.0) (record_of r w.0) (view.job w.0) (view.low w.0) (view.high w.0) (ab.tie.job_is w.0 s.from_one s.to_crews) sv.1 in
+      let h = false_from_ne_true (has_job r w.0) (λ e. omega (arith, (of_open d r view ab.tie w.0 s e).1, sv.1)) in
       subst (λ (o : Outcome V). Done o (view_after top z.cells view w.0 opens) g)
       (sym (passes (Open w) (within r.head.sizes.crews w.0 s.from_one s.to_crews) refl h refl refl
       (le-ltb top (r.head.highest + 2) (omega (arith, ab.tie.highest_is, sv.2)))

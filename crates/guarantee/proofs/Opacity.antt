@@ -15,7 +15,7 @@ use Rattle.history.specs.SerialExecution.{SeriallyExplained, execute_serially}
 use Rattle.history.specs.Values.{ReadsCurrent}
 use Rattle.history.specs.Views.{bounds_of}
 use Rattle.history.specs.WellMade.{WellMade}
-use Rattle.history.proofs.Crews.{well_formed}
+use Rattle.history.proofs.Crews.{openings_tail, well_formed}
 use Rattle.history.proofs.Moments.{committed_ends, numbered, well_formed_tail}
 use Rattle.history.proofs.Opacity.{bounds_run, tracked}
 use Rattle.history.proofs.Ordering.{Sorted, ascending_is_order, fill, fill_cases, fill_distinct, fill_in, fill_keeps, fill_sorted, insert, keys_ascend, order_respects, sorted_ascending, stands_by_key}
@@ -67,16 +67,9 @@ module _ {V : Type 0} where
   well_formed_since here pr = pr
   well_formed_since (later {a = a} {h = h} s) pr = well_formed_since s (well_formed_tail a h pr)
 
-  openings_on : (a : Event V V ℕ) (h : History V) → openings h ≤ openings (a ∷ h)
-  openings_on (by w opens) h = omega arith
-  openings_on (by w (reads c v)) h = omega arith
-  openings_on (by w (writes c v)) h = omega arith
-  openings_on (by w (commits p)) h = omega arith
-  openings_on (by w (abandons p)) h = omega arith
-
   openings_until : {h g : History V} → Extends h g → openings g ≤ openings h
   openings_until here = omega arith
-  openings_until {g = g} (later {a = a} {h = h} s) = let l = openings_until s in let m = openings_on a h in omega arith
+  openings_until (later {a = by w o} {h = h} s) = let l = openings_until s in let m = openings_tail w o h in omega arith
 
 ---- At every moment
 

@@ -1,5 +1,5 @@
 -- What specs/Examples says of its histories.
-use Rattle.std.proofs.Common.{◌≡◌, ℕ, ◌^◌, ◌≤◌, Bool, true, false, cond, eqb, ◌⊎◌, List, [], ◌∷◌, refl, subst, inl, inr, arith, lit≤}
+use Rattle.std.proofs.Common.{◌≡◌, ℕ, ◌+◌, ◌^◌, ◌≤◌, Bool, true, false, cond, eqb, leb, T, ◌⊎◌, List, [], ◌∷◌, refl, subst, inl, inr, arith, lit≤}
 use Rattle.std.proofs.Math.Logic.{⊎_map, ⊎_swap}
 use Rattle.std.proofs.lemmas.Bool.{eqb-true, both_ways, cases_eq}
 use Rattle.choosers.specs.Meaning.{Meaning}
@@ -16,7 +16,7 @@ use Rattle.history.specs.SerialExecution.{execute_job, execute_serially, Seriall
 use Rattle.history.specs.WellMade.{WellMade, Calls, calls_of}
 use Rattle.history.specs.Bounds.{Placed, sort_key, Ascending, Bounds, bounds_by_job}
 use Rattle.history.specs.Views.{RegisterView, bounds_of}
-use Rattle.history.specs.Acceptance.{RunWith, AcceptedWith}
+use Rattle.history.specs.Acceptance.{AtWork, RunWith, AcceptedWith}
 use Rattle.history.specs.Acceptance.RunWith.{starts, goes_on}
 use Rattle.history.specs.Examples.{first_values, small, crossed_reads, CrossedReadsHaveNoOrder, overtaking, OvertakingHasAnOrder, read_skew, ReadSkewIsNotExplained, in_turn, at_once, RealTimeIsKept}
 use Rattle.history.proofs.Rows.{one_way, in_later, in_cases, in_nil, in_one, in_head}
@@ -124,6 +124,10 @@ module _ (run : History ℕ) (numbers : List ℕ) {s : RegisterView ℕ} {f : Me
 
 ---- Overtaking
 
+-- by counting
+works : {s : RegisterView ℕ} {w : ℕ} → T (leb 1 w) → T (leb w 2) → T (leb 1 (s.job w)) → T (leb (s.low w + 2) (s.high w)) → T (leb (s.high w) (2 ^ 62)) → AtWork small s w
+works a b c d e = record { a_crew = (lit≤ a, lit≤ b); a_job = lit≤ c; room = lit≤ d; below_top = lit≤ e }
+
 overtaking_accepted : AcceptedWith (script_meaning (6 ∷ 3 ∷ [])) small first_values (λ w c. 0) (calls_of overtaking)
 overtaking_accepted = record {
   run = overtaking;
@@ -134,12 +138,12 @@ overtaking_accepted = record {
       goes_on (goes_on (goes_on (goes_on (goes_on (goes_on (goes_on (goes_on starts
       ((lit≤ tt, lit≤ tt), refl, lit≤ tt, lit≤ tt))
       ((lit≤ tt, lit≤ tt), refl, lit≤ tt, lit≤ tt))
-      (record { a_crew = (lit≤ tt, lit≤ tt); a_job = lit≤ tt; room = lit≤ tt; below_top = lit≤ tt }, (lit≤ tt, lit≤ tt)))
-      (record { a_crew = (lit≤ tt, lit≤ tt); a_job = lit≤ tt; room = lit≤ tt; below_top = lit≤ tt }, (lit≤ tt, lit≤ tt), refl, λ _. lit≤ tt))
-      (record { a_crew = (lit≤ tt, lit≤ tt); a_job = lit≤ tt; room = lit≤ tt; below_top = lit≤ tt }, (lit≤ tt, lit≤ tt)))
-      (record { a_crew = (lit≤ tt, lit≤ tt); a_job = lit≤ tt; room = lit≤ tt; below_top = lit≤ tt }, lit≤ tt, refl))
-      (record { a_crew = (lit≤ tt, lit≤ tt); a_job = lit≤ tt; room = lit≤ tt; below_top = lit≤ tt }, (lit≤ tt, lit≤ tt), refl, λ _. lit≤ tt))
-      (record { a_crew = (lit≤ tt, lit≤ tt); a_job = lit≤ tt; room = lit≤ tt; below_top = lit≤ tt }, lit≤ tt, refl);
+      (works tt tt tt tt tt, (lit≤ tt, lit≤ tt)))
+      (works tt tt tt tt tt, (lit≤ tt, lit≤ tt), refl, λ _. lit≤ tt))
+      (works tt tt tt tt tt, (lit≤ tt, lit≤ tt)))
+      (works tt tt tt tt tt, lit≤ tt, refl))
+      (works tt tt tt tt tt, (lit≤ tt, lit≤ tt), refl, λ _. lit≤ tt))
+      (works tt tt tt tt tt, lit≤ tt, refl);
 }
 
 overtaking_order : SerializationOrder (by_jobs overtaking) (1 ∷ 2 ∷ [])
@@ -255,11 +259,11 @@ in_turn_accepted = record {
   run_with =
       goes_on (goes_on (goes_on (goes_on (goes_on (goes_on starts
       ((lit≤ tt, lit≤ tt), refl, lit≤ tt, lit≤ tt))
-      (record { a_crew = (lit≤ tt, lit≤ tt); a_job = lit≤ tt; room = lit≤ tt; below_top = lit≤ tt }, (lit≤ tt, lit≤ tt)))
-      (record { a_crew = (lit≤ tt, lit≤ tt); a_job = lit≤ tt; room = lit≤ tt; below_top = lit≤ tt }, lit≤ tt, refl))
+      (works tt tt tt tt tt, (lit≤ tt, lit≤ tt)))
+      (works tt tt tt tt tt, lit≤ tt, refl))
       ((lit≤ tt, lit≤ tt), refl, lit≤ tt, lit≤ tt))
-      (record { a_crew = (lit≤ tt, lit≤ tt); a_job = lit≤ tt; room = lit≤ tt; below_top = lit≤ tt }, (lit≤ tt, lit≤ tt)))
-      (record { a_crew = (lit≤ tt, lit≤ tt); a_job = lit≤ tt; room = lit≤ tt; below_top = lit≤ tt }, lit≤ tt, refl);
+      (works tt tt tt tt tt, (lit≤ tt, lit≤ tt)))
+      (works tt tt tt tt tt, lit≤ tt, refl);
 }
 
 at_once_accepted : AcceptedWith (script_meaning (1 ∷ 1 ∷ [])) small first_values (λ w c. 0) (calls_of at_once)
@@ -272,10 +276,10 @@ at_once_accepted = record {
       goes_on (goes_on (goes_on (goes_on (goes_on (goes_on starts
       ((lit≤ tt, lit≤ tt), refl, lit≤ tt, lit≤ tt))
       ((lit≤ tt, lit≤ tt), refl, lit≤ tt, lit≤ tt))
-      (record { a_crew = (lit≤ tt, lit≤ tt); a_job = lit≤ tt; room = lit≤ tt; below_top = lit≤ tt }, (lit≤ tt, lit≤ tt)))
-      (record { a_crew = (lit≤ tt, lit≤ tt); a_job = lit≤ tt; room = lit≤ tt; below_top = lit≤ tt }, (lit≤ tt, lit≤ tt)))
-      (record { a_crew = (lit≤ tt, lit≤ tt); a_job = lit≤ tt; room = lit≤ tt; below_top = lit≤ tt }, lit≤ tt, refl))
-      (record { a_crew = (lit≤ tt, lit≤ tt); a_job = lit≤ tt; room = lit≤ tt; below_top = lit≤ tt }, lit≤ tt, refl);
+      (works tt tt tt tt tt, (lit≤ tt, lit≤ tt)))
+      (works tt tt tt tt tt, (lit≤ tt, lit≤ tt)))
+      (works tt tt tt tt tt, lit≤ tt, refl))
+      (works tt tt tt tt tt, lit≤ tt, refl);
 }
 
 pub real_time_kept : RealTimeIsKept

@@ -3,7 +3,7 @@ use Rattle.std.proofs.Common.{◌≡◌, ℕ, zero, suc, ◌+◌, ◌<◌, ◌�
 use Rattle.std.proofs.lemmas.Bool.{eqb-true, eqb-false, eq-eqb, ne_eqb, both_ways, and_from, or_left, or_right, cases_eq, cond_both, true_from_ne_false}
 use Rattle.std.proofs.Math.Logic.{⊎_elim}
 use Rattle.std.proofs.lemmas.Option.{none-some}
-use Rattle.history.specs.Events.{Operation, Event, History, openings, open_job, by_jobs}
+use Rattle.history.specs.Events.{Operation, Event, History, ends_at, openings, open_job, by_jobs}
 use Rattle.history.specs.Events.Operation.{opens, reads, writes, commits, abandons}
 use Rattle.history.specs.Events.Event.{by}
 use Rattle.history.specs.Projections.{projection, buffered, is_active, end_place}
@@ -11,8 +11,8 @@ use Rattle.history.specs.Values.{committed_value, ReadsCurrent}
 use Rattle.history.specs.Precedence.{Wrote, ReadGlobally}
 use Rattle.history.specs.SerialExecution.{Opaque}
 use Rattle.history.specs.WellMade.{WellMade}
-use Rattle.history.specs.Bounds.{CrewMoves, CrewRun}
-use Rattle.history.specs.Views.{RegisterView, conflicts, Accepts, updated, view_after, ViewRun, bounds_of, ViewAgrees}
+use Rattle.history.specs.Bounds.{Bounds, Narrows, OwnBounds, CrewMoves, CrewRun}
+use Rattle.history.specs.Views.{RegisterView, conflicts, low_after_read, Accepts, updated, view_after, ViewRun, bounds_of, ViewAgrees}
 use Rattle.history.specs.Views.ViewRun.{starts, goes_on}
 use Rattle.history.proofs.Moments.{buffered_wrote, unbuffered_unwritten, unopened_projection}
 use Rattle.history.proofs.Tracking.{read_cases, reader_active}
@@ -74,31 +74,28 @@ module _ {V : Type 0} (top n : ℕ) (first : ℕ → V) (run : History V) (s : R
       let f = flag_when_written w c (open_job_of w ac.0) wr in
       ((ac.3 c f).0, (ac.3 c f).1, rw f (omega arith), λ u ne a r. rw (ne_eqb w u (λ e. ne (sym e)), conflicts_from s w u n c (facts.range w c f).0 (facts.range w c f).1 (facts.read_is u c a r) f) (omega arith))
 
+  -- a call that ends no job leaves every place as it was
+  abbrev with_bounds : (ℕ → ℕ) → (ℕ → ℕ) → Bounds
+  with_bounds low high = record { low = low; high = high; written = s.written; read = s.read; highest = s.highest }
+
+  moves_on : (w : ℕ) (d : Operation V V ℕ) (low high : ℕ → ℕ) → ends_at d ≡ None → OwnBounds top run (bounds_of s) w d (with_bounds low high) →
+      ((u : ℕ) → (u ≡ w → ⊥) → 1 ≤ open_job run u → Narrows (bounds_of s) u (with_bounds low high)) → CrewMoves top run (bounds_of s) w d (with_bounds low high)
+  moves_on w d low high none own others = record {
+    own = own;
+    others = others;
+    highest_up = omega arith;
+    written_up = λ c. omega arith;
+    read_up = λ c. omega arith;
+    ends = λ p e. absurd (none-some p (sym none ∙ e));
+  }
+
   crew_moves : (w : ℕ) (d : Operation V V ℕ) → Accepts top n s w d → CrewMoves top run (bounds_of s) w d (bounds_of (view_after top n s w d))
-  crew_moves w opens ac = record {
-    own = rw (eq-eqb w w refl) (omega arith, omega arith, ac.1);
-    others = λ u ne a. rw (ne_eqb w u (λ e. ne (sym e))) (omega arith, omega arith, facts.room u a);
-    highest_up = omega arith;
-    written_up = λ c. omega arith;
-    read_up = λ c. omega arith;
-    ends = λ p e. absurd (none-some p e);
-  }
-  crew_moves w (reads c v) ac = record {
-    own = rw (eq-eqb w w refl) (own_read w c v ac (s.has_written w c) refl);
-    others = λ u ne a. rw (ne_eqb w u (λ e. ne (sym e))) (omega arith, omega arith, facts.room u a);
-    highest_up = omega arith;
-    written_up = λ c. omega arith;
-    read_up = λ c. omega arith;
-    ends = λ p e. absurd (none-some p e);
-  }
-  crew_moves w (writes c v) ac = record {
-    own = (omega arith, omega arith, facts.room w (open_job_of w ac.0));
-    others = λ u ne a. (omega arith, omega arith, facts.room u a);
-    highest_up = omega arith;
-    written_up = λ c. omega arith;
-    read_up = λ c. omega arith;
-    ends = λ p e. absurd (none-some p e);
-  }
+  crew_moves w opens ac = moves_on w opens (updated s.low w s.highest) (updated s.high w top) refl (rw (eq-eqb w w refl) (omega arith, omega arith, ac.1))
+      (λ u ne a. rw (ne_eqb w u (λ e. ne (sym e))) (omega arith, omega arith, facts.room u a))
+  crew_moves w (reads c v) ac = moves_on w (reads c v) (updated s.low w (low_after_read s w c)) s.high refl (rw (eq-eqb w w refl) (own_read w c v ac (s.has_written w c) refl))
+      (λ u ne a. rw (ne_eqb w u (λ e. ne (sym e))) (omega arith, omega arith, facts.room u a))
+  crew_moves w (writes c v) ac =
+      moves_on w (writes c v) s.low s.high refl (omega arith, omega arith, facts.room w (open_job_of w ac.0)) (λ u ne a. (omega arith, omega arith, facts.room u a))
   crew_moves w (commits p) ac = record {
     own = (ac.1, ac.2, λ c wr. own_commit w p c ac wr);
     others = λ u ne a. rw (ne_eqb w u (λ e. ne (sym e))) (lowered w p u ac ne a (conflicts s w u n) refl);
