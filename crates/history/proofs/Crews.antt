@@ -8,18 +8,8 @@ use Rattle.history.specs.Projections.{projection, is_active, WellFormed}
 use Rattle.history.specs.WellMade.{WellMade}
 use Rattle.history.proofs.Moments.{projection_zero}
 
-open_job_step : (opening ending same : Bool) (n j : ℕ) → j ≤ n → cond (opening && same) (suc n) (cond (ending && same) 0 j) ≤ cond opening (suc n) n
-open_job_step true ending true n j l = omega arith
-open_job_step true true false n j l = omega arith
-open_job_step true false false n j l = omega arith
-open_job_step false true true n j l = omega arith
-open_job_step false true false n j l = l
-open_job_step false false same n j l = l
-
 ended_one_crew : (w u : ℕ) (x y : Bool) (i j : ℕ) → 1 ≤ cond x 0 i → cond x 0 i ≡ cond y 0 j → (1 ≤ i → i ≡ j → w ≡ u) → w ≡ u
-ended_one_crew w u true y i j a e ih = absurd (omega arith)
-ended_one_crew w u false true i j a e ih = absurd (omega arith)
-ended_one_crew w u false false i j a e ih = ih a e
+ended_one_crew w u x y i j a e ih = grind (arith, ih)
 
 module _ {V R P : Type 0} where
   pub openings_by_job : (run : Events V R P) → openings (by_jobs run) ≡ openings run
@@ -31,7 +21,7 @@ module _ {V R P : Type 0} where
 
   pub open_job_numbered : (run : Events V R P) (w : ℕ) → open_job run w ≤ openings run
   open_job_numbered [] w = omega arith
-  open_job_numbered (by u o ∷ run) w = open_job_step (is_opening o) (is_ending o) (eqb u w) (openings run) (open_job run w) (open_job_numbered run w)
+  open_job_numbered (by u o ∷ run) w = let ih = open_job_numbered run w in grind arith
 
 module _ {V : Type 0} where
   -- a job is one crew's

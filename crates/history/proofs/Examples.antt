@@ -1,7 +1,7 @@
 -- What specs/Examples says of its histories.
 use Rattle.std.proofs.Common.{◌≡◌, ℕ, ◌+◌, ◌^◌, ◌≤◌, Bool, true, false, cond, eqb, leb, T, ◌⊎◌, List, [], ◌∷◌, refl, subst, inl, inr, arith, lit≤}
 use Rattle.std.proofs.Math.Logic.{⊎_map, ⊎_swap}
-use Rattle.std.proofs.lemmas.Bool.{eqb-true, both_ways, cases_eq}
+use Rattle.std.proofs.lemmas.Bool.{eqb-true, both_ways, cases_eq, cond_both}
 use Rattle.choosers.specs.Meaning.{Meaning}
 use Rattle.choosers.specs.Script.{script_meaning}
 use Rattle.choosers.specs.Lawful.{script_lawful}
@@ -162,10 +162,6 @@ overtaking_explained =
 second_told_15 : SeriallyExplained first_values (by_jobs overtaking) (2 ∷ 1 ∷ []) → ⊥
 second_told_15 ex = let e : ◌≡◌ {A = List ℕ} (25 ∷ 15 ∷ []) (25 ∷ 10 ∷ []) = ex.same_observed 2 (1 ∷ []) here in let f : ◌≡◌ {A = ℕ} 15 10 = cc in omega arith
 
-in_turn_lem : (b : Bool) → ◌≡◌ {A = ℕ} (cond b 0 (cond b 1 0)) 0
-in_turn_lem true = refl
-in_turn_lem false = refl
-
 pub overtaking_has_order : OvertakingHasAnOrder
 unfolding overtaking_accepted
 overtaking_has_order = record {
@@ -183,7 +179,7 @@ overtaking_has_order = record {
         λ e. absurd (both_ways false refl e),
         (
           λ e. absurd (both_ways false refl e),
-          (λ e u. in_turn_lem (eqb 1 u), (λ e. absurd (both_ways false refl e), (λ e. absurd (both_ways false refl e), (λ e u. refl, tt)))),
+          (λ e u. cond_both (eqb 1 u) _ _ (λ k. k ≡ 0) (λ _. refl) (λ q. rw q refl), (λ e. absurd (both_ways false refl e), (λ e. absurd (both_ways false refl e), (λ e u. refl, tt)))),
         ),
       ),
     ),

@@ -121,8 +121,7 @@ module _ {V : Type 0} (top n : ℕ) (first : ℕ → V) (run : History V) (s : R
   well_made_step w (abandons p) ac wm = (open_job_of w ac.0, wm)
 
   shown : (b : Bool) (o v : V) → cond b o v ≡ unwrap_or (cond b (Some o) None) v
-  shown true o v = refl
-  shown false o v = refl
+  shown b o v = cond_both b _ _ (λ k. k ≡ unwrap_or (cond b (Some o) None) v) (λ e. rw e refl) (λ e. rw e refl)
 
   own_or_value : (w c : ℕ) → 1 ≤ open_job run w →
       cond (s.has_written w c) (s.own w c) (s.value c) ≡ unwrap_or (buffered (projection (by_jobs run) (open_job run w)) c) (committed_value first (by_jobs run) c)
