@@ -120,22 +120,14 @@ module _ {V : Type 0} (top n : ℕ) (first : ℕ → V) (at : ℕ → ℕ) (run 
 
     open_fits : PlacesFit at (by w opens ∷ run) (view_after top n s w opens)
     open_fits = record {
-      low_is = λ u a. low u (eqb w u) a;
-      high_is = λ u a. high u (eqb w u) a;
+      low_is = λ u a. grind (arith, new_above, fits.low_is, a);
+      high_is = λ u a. grind (arith, new_within, fits.high_is, a);
       written_is = marks_later (by (suc (openings run)) opens);
       read_is = reads_later (by (suc (openings run)) opens);
       highest_is = highest_later (by (suc (openings run)) opens);
       flag_is = λ u c q. flag u c (eqb w u) refl q;
     }
       where
-        low : (u : ℕ) (b : Bool) → 1 ≤ cond b (suc (openings run)) (open_job run u) → cond b s.highest (s.low u) < at (cond b (suc (openings run)) (open_job run u))
-        low u true a = new_above
-        low u false a = fits.low_is u a
-
-        high : (u : ℕ) (b : Bool) → 1 ≤ cond b (suc (openings run)) (open_job run u) → at (cond b (suc (openings run)) (open_job run u)) < cond b top (s.high u)
-        high u true a = omega (arith, new_within.1)
-        high u false a = fits.high_is u a
-
         flag : (u c : ℕ) (b : Bool) → eqb w u ≡ b → s.has_read u c ≡ true →
             (1 ≤ cond b (suc (openings run)) (open_job run u)) × ReadGlobally (by (suc (openings run)) opens ∷ by_jobs run) (cond b (suc (openings run)) (open_job run u)) c
         flag u c true e q = absurd (omega (arith, (fits.flag_is u c q).0, j, ap (open_job run) (eqb-true w u e)))
@@ -202,8 +194,7 @@ module _ {V : Type 0} (top n : ℕ) (first : ℕ → V) (at : ℕ → ℕ) (run 
   ---- what both endings leave
   module _ (w : ℕ) (a : 1 ≤ open_job run w) (event : Event V V ℕ) (en : Ended (event ∷ by_jobs run) (open_job run w)) where
     ended_low : (u : ℕ) (b : Bool) → 1 ≤ cond b 0 (open_job run u) → cond b 0 (s.low u) < at (cond b 0 (open_job run u))
-    ended_low u true l = absurd (omega arith)
-    ended_low u false l = fits.low_is u l
+    ended_low u b l = grind (arith, fits.low_is, l)
 
     ended_reads : (c : ℕ) (b : Bool) → s.has_read w c ≡ b →
         Mark at (λ y. ReadGlobally (event ∷ by_jobs run) y c × Ended (event ∷ by_jobs run) y) (cond b (max (s.read c) (at (open_job run w))) (s.read c))
@@ -279,7 +270,7 @@ module _ {V : Type 0} (top n : ℕ) (first : ℕ → V) (at : ℕ → ℕ) (run 
     abandon_fits : PlacesFit at (by w (abandons (at (open_job run w))) ∷ run) (view_after top n s w (abandons (at (open_job run w))))
     abandon_fits = record {
       low_is = λ u l. ended_low w a event en u (eqb w u) l;
-      high_is = λ u l. high u (eqb w u) l;
+      high_is = λ u l. grind (arith, fits.high_is, l);
       written_is = marks_later event;
       read_is = λ c. ended_reads w a event en c (s.has_read w c) refl;
       highest_is = ended_highest w a event en;
@@ -291,10 +282,6 @@ module _ {V : Type 0} (top n : ℕ) (first : ℕ → V) (at : ℕ → ℕ) (run 
 
         en : Ended (event ∷ by_jobs run) (open_job run w)
         en = record { place = at (open_job run w); before = by_jobs run; occurs = inr here }
-
-        high : (u : ℕ) (b : Bool) → 1 ≤ cond b 0 (open_job run u) → at (cond b 0 (open_job run u)) < cond b 0 (s.high u)
-        high u true l = absurd (omega arith)
-        high u false l = fits.high_is u l
 
 ---- The whole list
 module _ {V : Type 0} (top n m : ℕ) (first : ℕ → V) (own : ℕ → ℕ → V) (at : ℕ → ℕ) where
