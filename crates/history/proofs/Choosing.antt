@@ -62,8 +62,7 @@ module _ {V : Type 0} (n : ℕ) (s : RegisterView V) (w : ℕ) where
 
 ---- A crew with an open job is in range
 ended_range : (m j u : ℕ) (b : Bool) → 1 ≤ cond b 0 j → (1 ≤ j → UpTo m u) → UpTo m u
-ended_range m j u true a ih = absurd (omega arith)
-ended_range m j u false a ih = ih a
+ended_range m j u b a ih = grind (arith, ih, a)
 
 job_range : {V R P : Type 0} (n m : ℕ) (run : Events V R P) → InRange n m run → (u : ℕ) → 1 ≤ open_job run u → UpTo m u
 job_range n m [] r u a = absurd (omega arith)

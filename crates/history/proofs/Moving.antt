@@ -41,8 +41,7 @@ module _ {V : Type 0} (top : ℕ) (run : History V) (b : Bounds) (w : ℕ) (b' :
   closes_on v s false f = closes_same (end_place s) _ _ _ _ (omega arith) (omega arith)
 
   room_on : (v : ℕ) (k : Bool) → 2 ≤ top → (k ≡ true → Narrows b v b') → cond k (b'.low v) 0 + 2 ≤ cond k (b'.high v) top
-  room_on v true t f = (f refl).2
-  room_on v false t f = omega arith
+  room_on v k t f = grind (arith, t, f)
 
   goes_on_at : (z : ℕ) (now : List (Operation V V ℕ)) → end_place now ≡ end_place (steps z) → is_active now ≡ is_active (steps z) → 2 ≤ top →
       (is_active (steps z) ≡ true → Narrows b (crew_of run z) b') → Closes z (crew_of run z) now × HasRoom (crew_of run z) now

@@ -171,12 +171,10 @@ module _ {V : Type 0} (top n : ℕ) (first : ℕ → V) (run : History V) (s : R
       seen u c false e a r = facts.read_is u c a (no_case (read_cases (open_job run u) c (by k opens) h r))
 
       unflagged : (u c : ℕ) (b : Bool) → cond b k (open_job run u) ≡ 0 → s.has_written u c ≡ false
-      unflagged u c true q = absurd (omega arith)
-      unflagged u c false q = facts.closed_is u c q
+      unflagged u c b q = grind (arith, facts.closed_is, q)
 
       roomy : (u : ℕ) (b : Bool) → 1 ≤ cond b k (open_job run u) → cond b s.highest (s.low u) + 2 ≤ cond b top (s.high u)
-      roomy u true a = ac.1
-      roomy u false a = facts.room u a
+      roomy u b a = grind (arith, ac.1, facts.room, a)
 
   facts_read : (w c : ℕ) (v : V) → Accepts top n s w (reads c v) → ViewFacts n first (by w (reads c v) ∷ run) (view_after top n s w (reads c v))
   facts_read w c v ac = record {
@@ -272,8 +270,7 @@ module _ {V : Type 0} (top n : ℕ) (first : ℕ → V) (run : History V) (s : R
 
     ended_room : (h : ℕ → ℕ) → ((u : ℕ) → (u ≡ w → ⊥) → 1 ≤ open_job run u → s.low u + 2 ≤ h u) → (u : ℕ) (b : Bool) → eqb w u ≡ b → 1 ≤ cond b 0 (open_job run u) →
         cond b 0 (s.low u) + 2 ≤ cond b 0 (h u)
-    ended_room h f u true e a = absurd (omega arith)
-    ended_room h f u false e a = f u (λ q. eqb-false w u e (sym q)) a
+    ended_room h f u b e a = grind (arith, f, a, eqb-false w u)
 
   facts_commit : (w p : ℕ) → Accepts top n s w (commits p) → ViewFacts n first (by w (commits p) ∷ run) (view_after top n s w (commits p))
   facts_commit w p ac = record {
