@@ -8,9 +8,6 @@ use Rattle.history.specs.Projections.{projection, is_active, WellFormed}
 use Rattle.history.specs.WellMade.{WellMade}
 use Rattle.history.proofs.Moments.{projection_zero}
 
-ended_one_crew : (w u : ℕ) (x y : Bool) (i j : ℕ) → 1 ≤ cond x 0 i → cond x 0 i ≡ cond y 0 j → (1 ≤ i → i ≡ j → w ≡ u) → w ≡ u
-ended_one_crew w u x y i j a e ih = grind (arith, ih)
-
 module _ {V R P : Type 0} where
   pub openings_by_job : (run : Events V R P) → openings (by_jobs run) ≡ openings run
   openings_by_job [] = refl
@@ -27,19 +24,11 @@ module _ {V : Type 0} where
   -- a job is one crew's
   pub one_crew : (run : History V) (w u : ℕ) → 1 ≤ open_job run w → open_job run w ≡ open_job run u → w ≡ u
   one_crew [] w u a e = absurd (omega arith)
-  one_crew (by k opens ∷ run) w u a e = go (eqb k w) (eqb k u) refl refl a e (open_job_numbered run w) (open_job_numbered run u) (one_crew run w u)
-    where
-      go : (x y : Bool) → eqb k w ≡ x → eqb k u ≡ y → 1 ≤ cond x (suc (openings run)) (open_job run w) →
-          cond x (suc (openings run)) (open_job run w) ≡ cond y (suc (openings run)) (open_job run u) → open_job run w ≤ openings run → open_job run u ≤ openings run →
-          (1 ≤ open_job run w → open_job run w ≡ open_job run u → w ≡ u) → w ≡ u
-      go true true p q a e l m ih = sym (eqb-true k w p) ∙ eqb-true k u q
-      go true false p q a e l m ih = absurd (omega arith)
-      go false true p q a e l m ih = absurd (omega arith)
-      go false false p q a e l m ih = ih a e
+  one_crew (by k opens ∷ run) w u a e = let ih = one_crew run w u in grind (arith, a, e, ih, open_job_numbered run w, open_job_numbered run u, eqb-true k w, eqb-true k u)
   one_crew (by k (reads c v) ∷ run) w u a e = one_crew run w u a e
   one_crew (by k (writes c v) ∷ run) w u a e = one_crew run w u a e
-  one_crew (by k (commits p) ∷ run) w u a e = ended_one_crew w u (eqb k w) (eqb k u) (open_job run w) (open_job run u) a e (one_crew run w u)
-  one_crew (by k (abandons p) ∷ run) w u a e = ended_one_crew w u (eqb k w) (eqb k u) (open_job run w) (open_job run u) a e (one_crew run w u)
+  one_crew (by k (commits p) ∷ run) w u a e = let ih = one_crew run w u in grind (arith, a, e, ih)
+  one_crew (by k (abandons p) ∷ run) w u a e = let ih = one_crew run w u in grind (arith, a, e, ih)
 
   -- an ending of crew u leaves the job of another crew as it was
   still_open_active : (run : History V) (u w : ℕ) (o : Operation V V ℕ) (b : Bool) → eqb u w ≡ b → 1 ≤ cond b 0 (open_job run w) →
