@@ -63,23 +63,14 @@ module _ {V : Type 0} where
   well_formed (by w (commits p) ∷ run) wm = (open_job_active run w wm.0, well_formed run wm.1)
   well_formed (by w (abandons p) ∷ run) wm = (open_job_active run w wm.0, well_formed run wm.1)
 
-  still_crew : (run : History V) (w : ℕ) (b : Bool) → 1 ≤ cond b 0 (open_job run w) → (1 ≤ open_job run w → crew_of run (open_job run w) ≡ w) → crew_of run (cond b 0 (open_job run w)) ≡ w
-  still_crew run w true a ih = absurd (omega arith)
-  still_crew run w false a ih = ih a
-
   -- the crew of an open job has it
   pub crew_of_open_job : (run : History V) (w : ℕ) → 1 ≤ open_job run w → crew_of run (open_job run w) ≡ w
   crew_of_open_job [] w a = absurd (omega arith)
-  crew_of_open_job (by u opens ∷ run) w a = go (eqb u w) refl a (open_job_numbered run w) (crew_of_open_job run w)
-    where
-      go : (b : Bool) → eqb u w ≡ b → 1 ≤ cond b (suc (openings run)) (open_job run w) → open_job run w ≤ openings run →
-          (1 ≤ open_job run w → crew_of run (open_job run w) ≡ w) → crew_of (by u opens ∷ run) (cond b (suc (openings run)) (open_job run w)) ≡ w
-      go true e a l ih = rw (eq-eqb (suc (openings run)) (suc (openings run)) refl) (eqb-true u w e)
-      go false e a l ih = rw (ne_eqb (suc (openings run)) (open_job run w) (λ q. omega arith)) (ih a)
+  crew_of_open_job (by u opens ∷ run) w a = let ih = crew_of_open_job run w in grind (arith, a, ih, open_job_numbered run w, eqb-true u w)
   crew_of_open_job (by u (reads c v) ∷ run) w a = crew_of_open_job run w a
   crew_of_open_job (by u (writes c v) ∷ run) w a = crew_of_open_job run w a
-  crew_of_open_job (by u (commits p) ∷ run) w a = still_crew run w (eqb u w) a (crew_of_open_job run w)
-  crew_of_open_job (by u (abandons p) ∷ run) w a = still_crew run w (eqb u w) a (crew_of_open_job run w)
+  crew_of_open_job (by u (commits p) ∷ run) w a = let ih = crew_of_open_job run w in grind (arith, a, ih)
+  crew_of_open_job (by u (abandons p) ∷ run) w a = let ih = crew_of_open_job run w in grind (arith, a, ih)
 
   pub active_positive : (run : History V) → WellMade run → (x : ℕ) → is_active (projection (by_jobs run) x) ≡ true → 1 ≤ x
   active_positive run wm zero o = absurd (both_ways (is_active (projection (by_jobs run) 0)) (ap is_active (projection_zero (by_jobs run) (well_formed run wm))) o)
