@@ -40,13 +40,7 @@ module _ {V : Type 0} where
   -- a crew's job is open
   pub open_job_active : (run : History V) (w : ℕ) → 1 ≤ open_job run w → is_active (projection (by_jobs run) (open_job run w)) ≡ true
   open_job_active [] w a = absurd (omega arith)
-  open_job_active (by u opens ∷ run) w a = go (eqb u w) a (open_job_numbered run w) (open_job_active run w)
-    where
-      go : (b : Bool) → 1 ≤ cond b (suc (openings run)) (open_job run w) → open_job run w ≤ openings run →
-          (1 ≤ open_job run w → is_active (projection (by_jobs run) (open_job run w)) ≡ true) →
-          is_active (projection (by (suc (openings run)) opens ∷ by_jobs run) (cond b (suc (openings run)) (open_job run w))) ≡ true
-      go true a l ih = rw (eq-eqb (suc (openings run)) (suc (openings run)) refl)
-      go false a l ih = rw (ne_eqb (suc (openings run)) (open_job run w) (λ e. omega arith)) (ih a)
+  open_job_active (by u opens ∷ run) w a = let ih = open_job_active run w in grind (arith, a, ih, open_job_numbered run w)
   open_job_active (by u (reads c v) ∷ run) w a = let ih = open_job_active run w a in cond_both (eqb (open_job run u) (open_job run w)) _ _ (λ s. is_active s ≡ true) (λ _. ih) (λ _. ih)
   open_job_active (by u (writes c v) ∷ run) w a = let ih = open_job_active run w a in cond_both (eqb (open_job run u) (open_job run w)) _ _ (λ s. is_active s ≡ true) (λ _. ih) (λ _. ih)
   open_job_active (by u (commits p) ∷ run) w a = still_open_active run u w (commits p) (eqb u w) refl a (open_job_active run w)
@@ -88,12 +82,7 @@ module _ {V : Type 0} where
 
   pub active_has_crew : (run : History V) → WellMade run → (x : ℕ) → is_active (projection (by_jobs run) x) ≡ true → open_job run (crew_of run x) ≡ x
   active_has_crew [] wm x o = absurd (both_ways false refl o)
-  active_has_crew (by u opens ∷ run) wm x o = go (eqb (suc (openings run)) x) refl o (active_has_crew run wm.1 x)
-    where
-      go : (b : Bool) → eqb (suc (openings run)) x ≡ b → is_active (cond b (opens ∷ projection (by_jobs run) x) (projection (by_jobs run) x)) ≡ true →
-          (is_active (projection (by_jobs run) x) ≡ true → open_job run (crew_of run x) ≡ x) → open_job (by u opens ∷ run) (cond b u (crew_of run x)) ≡ x
-      go true e o ih = rw (eq-eqb u u refl) (eqb-true (suc (openings run)) x e)
-      go false e o ih = rw (ne_eqb u (crew_of run x) (λ k. omega (arith, active_positive run wm.1 x o, wm.0, ap (open_job run) k ∙ ih o))) (ih o)
+  active_has_crew (by u opens ∷ run) wm x o = let ih = active_has_crew run wm.1 x in grind (arith, o, ih, wm, active_positive run wm.1 x, eqb-true (suc (openings run)) x)
   active_has_crew (by u (reads c v) ∷ run) wm x o = active_has_crew run wm.1 x (still_active (reads c v ∷ projection (by_jobs run) x) (projection (by_jobs run) x) (eqb (open_job run u) x) refl o)
   active_has_crew (by u (writes c v) ∷ run) wm x o = active_has_crew run wm.1 x (still_active (writes c v ∷ projection (by_jobs run) x) (projection (by_jobs run) x) (eqb (open_job run u) x) refl o)
   active_has_crew (by u (commits p) ∷ run) wm x o = ended_crew run u x (open_job run u) (commits p) (λ s. refl) refl (eqb (open_job run u) x) refl o (active_has_crew run wm.1 x)
