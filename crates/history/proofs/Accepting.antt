@@ -146,7 +146,7 @@ module _ {V : Type 0} (top n : ℕ) (first : ℕ → V) (at : ℕ → ℕ) (run 
 
     read_fits : PlacesFit at (by w (reads c v) ∷ run) (view_after top n s w (reads c v))
     read_fits = record {
-      low_is = λ u b. low u (eqb w u) refl b;
+      low_is = λ u b. grind (arith, fits.low_is w a, fits.low_is u, written_below, b, eqb-true w u);
       high_is = fits.high_is;
       written_is = marks_later (by (open_job run w) (reads c v));
       read_is = reads_later (by (open_job run w) (reads c v));
@@ -154,14 +154,6 @@ module _ {V : Type 0} (top n : ℕ) (first : ℕ → V) (at : ℕ → ℕ) (run 
       flag_is = λ u k q. flag u k (eqb w u) refl q;
     }
       where
-        mine : (b : Bool) → s.has_written w c ≡ b → cond b (s.low w) (max (s.low w) (s.written c)) < at (open_job run w)
-        mine true q = fits.low_is w a
-        mine false q = omega (arith, written_below q, fits.low_is w a)
-
-        low : (u : ℕ) (b : Bool) → eqb w u ≡ b → 1 ≤ open_job run u → cond b (cond (s.has_written w c) (s.low w) (max (s.low w) (s.written c))) (s.low u) < at (open_job run u)
-        low u true q b = rw (← eqb-true w u q) (mine (s.has_written w c) refl)
-        low u false q b = fits.low_is u b
-
         inner : (b : Bool) → s.has_written w c ≡ b → cond b (s.has_read w c) true ≡ true → (1 ≤ open_job run w) × ReadGlobally (by (open_job run w) (reads c v) ∷ by_jobs run) (open_job run w) c
         inner true q t = flags_later (by (open_job run w) (reads c v)) w c t
         inner false q t = (a, record { value = v; before = by_jobs run; occurs = here; unwritten = not_flag w c a q })
@@ -237,7 +229,7 @@ module _ {V : Type 0} (top n : ℕ) (first : ℕ → V) (at : ℕ → ℕ) (run 
     commit_fits : PlacesFit at (by w (commits (at (open_job run w))) ∷ run) (view_after top n s w (commits (at (open_job run w))))
     commit_fits = record {
       low_is = λ u l. ended_low w a event en u (eqb w u) l;
-      high_is = λ u l. high u (eqb w u) refl l;
+      high_is = λ u l. let ne : eqb w u ≡ false → u ≡ w → ⊥ = λ e q. eqb-false w u e (sym q) in grind (arith, fits.high_is u, reader_below u, l, ne);
       written_is = λ c. marked c (s.has_written w c) refl;
       read_is = λ c. ended_reads w a event en c (s.has_read w c) refl;
       highest_is = ended_highest w a event en;
@@ -249,14 +241,6 @@ module _ {V : Type 0} (top n : ℕ) (first : ℕ → V) (at : ℕ → ℕ) (run 
 
         en : Ended (event ∷ by_jobs run) (open_job run w)
         en = record { place = at (open_job run w); before = by_jobs run; occurs = inl here }
-
-        inner : (u : ℕ) → (u ≡ w → ⊥) → 1 ≤ open_job run u → (b : Bool) → conflicts s w u n ≡ b → at (open_job run u) < cond b (min (s.high u) (at (open_job run w))) (s.high u)
-        inner u ne l true q = omega (arith, reader_below u ne q, fits.high_is u l)
-        inner u ne l false q = fits.high_is u l
-
-        high : (u : ℕ) (b : Bool) → eqb w u ≡ b → 1 ≤ cond b 0 (open_job run u) → at (cond b 0 (open_job run u)) < cond b 0 (cond (conflicts s w u n) (min (s.high u) (at (open_job run w))) (s.high u))
-        high u true e l = absurd (omega arith)
-        high u false e l = inner u (λ q. eqb-false w u e (sym q)) l (conflicts s w u n) refl
 
         marked : (c : ℕ) (b : Bool) → s.has_written w c ≡ b → Mark at (λ y. CommittedCell (event ∷ by_jobs run) y c) (cond b (at (open_job run w)) (s.written c))
         marked c true q = inr (open_job run w, record { place = at (open_job run w); before = by_jobs run; occurs = here; wrote = wrote c q }, refl)
