@@ -17,28 +17,14 @@ use Rattle.history.proofs.JobBounds.{ClosesIn, SeesTo, Moves}
 
 -- bounds that close in keep jobs apart
 apart_later : (o p o' p' : Option ℕ) (lx ux ly uy lx' ux' ly' uy' : ℕ) → ClosesIn o lx ux o' lx' ux' → ClosesIn p ly uy p' ly' uy' → PlacedApart o lx ux p ly uy → PlacedApart o' lx' ux' p' ly' uy'
-apart_later (Some a) (Some b) (Some a') (Some b') lx ux ly uy lx' ux' ly' uy' m n k = omega arith
-apart_later (Some a) (Some b) (Some a') None lx ux ly uy lx' ux' ly' uy' m n k = absurd n
-apart_later (Some a) (Some b) None p' lx ux ly uy lx' ux' ly' uy' m n k = absurd m
-apart_later (Some a) None (Some a') (Some b') lx ux ly uy lx' ux' ly' uy' m n k = omega arith
-apart_later (Some a) None (Some a') None lx ux ly uy lx' ux' ly' uy' m n k = omega arith
-apart_later (Some a) None None p' lx ux ly uy lx' ux' ly' uy' m n k = absurd m
-apart_later None (Some b) (Some a') (Some b') lx ux ly uy lx' ux' ly' uy' m n k = omega arith
-apart_later None (Some b) (Some a') None lx ux ly uy lx' ux' ly' uy' m n k = absurd n
-apart_later None (Some b) None (Some b') lx ux ly uy lx' ux' ly' uy' m n k = omega arith
-apart_later None (Some b) None None lx ux ly uy lx' ux' ly' uy' m n k = absurd n
-apart_later None None o' p' lx ux ly uy lx' ux' ly' uy' m n k = absurd k
+apart_later o p o' p' lx ux ly uy lx' ux' ly' uy' m n k = grind (arith, m, n, k)
 
 -- a place stays
 closes_back : (o o' : Option ℕ) (l u l' u' : ℕ) → ClosesIn o l u o' l' u' → (k p : ℕ) → o ≡ Some k → o' ≡ Some p → o ≡ Some p
-closes_back (Some a) (Some b) l u l' u' m k p e f = cc
-closes_back (Some a) None l u l' u' m k p e f = absurd m
-closes_back None o' l u l' u' m k p e f = absurd (none-some k e)
+closes_back o o' l u l' u' m k p e f = grind (arith, m, e, f)
 
 closes_later : (o o' : Option ℕ) (l u l' u' : ℕ) → ClosesIn o l u o' l' u' → (p : ℕ) → o ≡ Some p → o' ≡ Some p
-closes_later (Some a) (Some b) l u l' u' m p e = cc
-closes_later (Some a) None l u l' u' m p e = absurd m
-closes_later None o' l u l' u' m p e = absurd (none-some p e)
+closes_later o o' l u l' u' m p e = grind (arith, m, e)
 
 apart_some_none : (o r : Option ℕ) (lx ux ly uy p : ℕ) → o ≡ Some p → r ≡ None → p ≤ ly → PlacedApart o lx ux r ly uy
 apart_some_none o r lx ux ly uy p e f k = rw (e, f) k
