@@ -15,8 +15,7 @@ use Rattle.history.proofs.Tracking.{reader_active}
 use Rattle.history.proofs.Crews.{openings_by_job, open_job_active, well_formed, crew_of_open_job, active_positive, active_has_crew}
 
 closes_same : (o : Option ℕ) (l u l' u' : ℕ) → l ≤ l' → u' ≤ u → ClosesIn o l u o l' u'
-closes_same (Some p) l u l' u' a b = refl
-closes_same None l u l' u' a b = (a, b)
+closes_same o l u l' u' a b = grind (arith, a, b)
 
 module _ {V : Type 0} (top : ℕ) (run : History V) (b : Bounds) (w : ℕ) (b' : Bounds) where
   abbrev steps : ℕ → List (Operation V V ℕ)
@@ -37,8 +36,7 @@ module _ {V : Type 0} (top : ℕ) (run : History V) (b : Bounds) (w : ℕ) (b' :
 
   closes_on : (v : ℕ) (s : List (Operation V V ℕ)) (k : Bool) → (k ≡ true → Narrows b v b') →
       ClosesIn (end_place s) (cond k (b.low v) 0) (cond k (b.high v) top) (end_place s) (cond k (b'.low v) 0) (cond k (b'.high v) top)
-  closes_on v s true f = closes_same (end_place s) _ _ _ _ (f refl).0 (f refl).1
-  closes_on v s false f = closes_same (end_place s) _ _ _ _ (omega arith) (omega arith)
+  closes_on v s k f = grind (arith, f)
 
   room_on : (v : ℕ) (k : Bool) → 2 ≤ top → (k ≡ true → Narrows b v b') → cond k (b'.low v) 0 + 2 ≤ cond k (b'.high v) top
   room_on v k t f = grind (arith, t, f)

@@ -64,11 +64,7 @@ well_made_moment here wm = wm
 well_made_moment (later {a = a} {h = h} e) wm = well_made_moment e (well_made_tail a h wm)
 
 reads_current_tail : {V : Type 0} (first : ℕ → V) (x : ℕ) (o : Operation V V ℕ) (h : History V) → ReadsCurrent first (by x o ∷ h) → ReadsCurrent first h
-reads_current_tail first x opens h rc = rc
-reads_current_tail first x (reads c v) h rc = rc.1
-reads_current_tail first x (writes c v) h rc = rc
-reads_current_tail first x (commits p) h rc = rc
-reads_current_tail first x (abandons p) h rc = rc
+reads_current_tail first x o h rc = grind (arith, rc)
 
 reads_current_moment : {V : Type 0} (first : ℕ → V) {run moment : History V} → Extends run moment → ReadsCurrent first (by_jobs run) → ReadsCurrent first (by_jobs moment)
 reads_current_moment first here rc = rc

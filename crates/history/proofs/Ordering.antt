@@ -115,13 +115,7 @@ module _ (key : ℕ → ℕ) where
 module _ {V : Type 0} (h : History V) (low high : ℕ → ℕ) (pl : Placed h low high) where
   -- the four rules put the keys apart
   pub keys_ascend : (x y : ℕ) → (x ≡ y → ⊥) → Precedes h x y → sort_key h low x < sort_key h low y
-  keys_ascend x y ne b = go (end_place (projection h x)) (end_place (projection h y)) refl refl (pl.apart x y ne b)
-    where
-      go : (o p : Option ℕ) → end_place (projection h x) ≡ o → end_place (projection h y) ≡ p → PlacedApart o (low x) (high x) p (low y) (high y) → sort_key_at o (low x) < sort_key_at p (low y)
-      go (Some p) (Some q) e f a = a
-      go (Some p) None e f a = omega arith
-      go None (Some q) e f a = omega (arith, pl.room x e)
-      go None None e f a = absurd a
+  keys_ascend x y ne b = grind (arith, pl.apart x y ne b, pl.room x)
 
   -- any row of all jobs in ascending keys, ties anyhow
   pub ascending_is_order : (row : List ℕ) → Once row → ((x : ℕ) → 1 ≤ x → x ≤ openings h → In x row) → ((x : ℕ) → In x row → (1 ≤ x) × (x ≤ openings h)) →

@@ -113,26 +113,13 @@ module _ {V : Type 0} where
   -- whoever has a place since this event is the one whose event it is
   place_step : (h : History V) (x z p : ℕ) (d : Operation V V ℕ) (b : Bool) → eqb x z ≡ b → end_place (projection h z) ≡ None →
       end_place (cond b (d ∷ projection h z) (projection h z)) ≡ Some p → (x ≡ z) × (ends_at d ≡ Some p)
-  place_step h x z p d false e n q = absurd (none-some p (sym n ∙ q))
-  place_step h x z p d true e n q = (eqb-true x z e, or_none (ends_at d) ∙ (ap (option_or (ends_at d)) (sym n) ∙ q))
-    where
-      or_none : (o : Option ℕ) → o ≡ option_or o None
-      or_none (Some k) = refl
-      or_none None = refl
+  place_step h x z p d b e n q = grind (arith, e, n, q, eqb-true x z)
 
   pub commits_by : (h : History V) (x z c : ℕ) (d : Operation V V ℕ) → CommitsNow (by x d) h z c → x ≡ z
-  commits_by h x z c opens m = absurd m
-  commits_by h x z c (reads k v) m = absurd m
-  commits_by h x z c (writes k v) m = absurd m
-  commits_by h x z c (commits p) m = m.0
-  commits_by h x z c (abandons p) m = absurd m
+  commits_by h x z c d m = grind (arith, m)
 
   reads_by : (h : History V) (x z c : ℕ) (d : Operation V V ℕ) → ReadsNow (by x d) h z c → (x ≡ z) × (ends_at d ≡ None)
-  reads_by h x z c opens m = absurd m
-  reads_by h x z c (reads k v) m = (m.0, refl)
-  reads_by h x z c (writes k v) m = absurd m
-  reads_by h x z c (commits p) m = absurd m
-  reads_by h x z c (abandons p) m = absurd m
+  reads_by h x z c d m = grind (arith, m)
 
   -- the end place of the job that acts, and of another
   end_place_own : (h : History V) (x : ℕ) (d : Operation V V ℕ) → end_place (projection (by x d ∷ h) x) ≡ end_place (d ∷ projection h x)
