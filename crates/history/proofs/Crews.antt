@@ -73,12 +73,10 @@ module _ {V : Type 0} where
   ended_crew : (run : History V) (u x j : ℕ) (d : Operation V V ℕ) → ((s : List (Operation V V ℕ)) → is_active (d ∷ s) ≡ false) → open_job run u ≡ j → (b : Bool) →
       eqb j x ≡ b → is_active (cond b (d ∷ projection (by_jobs run) x) (projection (by_jobs run) x)) ≡ true →
       (is_active (projection (by_jobs run) x) ≡ true → open_job run (crew_of run x) ≡ x) → cond (eqb u (crew_of run x)) 0 (open_job run (crew_of run x)) ≡ x
-  ended_crew run u x j d over q true e o ih = absurd (both_ways (is_active (d ∷ projection (by_jobs run) x)) (over (projection (by_jobs run) x)) o)
-  ended_crew run u x j d over q false e o ih = rw (ne_eqb u (crew_of run x) (λ k. eqb-false j x e (sym q ∙ (ap (open_job run) k ∙ ih o)))) (ih o)
+  ended_crew run u x j d over q b e o ih = grind (arith, e, o, ih, q, over (projection (by_jobs run) x), eqb-false j x)
 
   still_active : (s t : List (Operation V V ℕ)) (b : Bool) → is_active s ≡ is_active t → is_active (cond b s t) ≡ true → is_active t ≡ true
-  still_active s t true e o = sym e ∙ o
-  still_active s t false e o = o
+  still_active s t b e o = grind (arith, e, o)
 
   pub active_has_crew : (run : History V) → WellMade run → (x : ℕ) → is_active (projection (by_jobs run) x) ≡ true → open_job run (crew_of run x) ≡ x
   active_has_crew [] wm x o = absurd (both_ways false refl o)

@@ -1,5 +1,5 @@
 -- Serial execution in a respectful row explains what was told: by induction on one more event of the history, with the row as it is.
-use Rattle.std.proofs.Common.{◌≡◌, ℕ, Bool, true, false, cond, eqb, List, [], ◌∷◌, Some, None, Option, unwrap_or, sym, refl, ap, ◌∙◌, ap₂, inl, inr}
+use Rattle.std.proofs.Common.{◌≡◌, ℕ, Bool, true, false, cond, eqb, List, [], ◌∷◌, Some, None, Option, unwrap_or, sym, refl, ap, ◌∙◌, ap₂, inl, inr, arith}
 use Rattle.std.proofs.lemmas.Bool.{eqb-true, eq-eqb, cond_both, or_right}
 use Rattle.history.specs.Events.{Operation, Event, History, is_commit}
 use Rattle.history.specs.Events.Operation.{opens, reads, writes, commits, abandons}
@@ -68,8 +68,7 @@ module _ {V : Type 0} (first : ℕ → V) where
 
   write_installs : (h : History V) (x k z c : ℕ) (v : V) (b : Bool) → eqb x z ≡ b → is_committed (projection h x) ≡ false →
       installs (cond b (writes k v ∷ projection h z) (projection h z)) c ≡ installs (projection h z) c
-  write_installs h x k z c v true e n = let m : is_committed (projection h z) ≡ false = rw (eqb-true x z e) at n in rw m
-  write_installs h x k z c v false e n = refl
+  write_installs h x k z c v b e n = grind (arith, e, n, eqb-true x z)
 
   -- what is proved by induction on the history, for one row
   record Explained (h : History V) (row : List ℕ) : Type 0 where

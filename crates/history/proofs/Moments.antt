@@ -100,28 +100,14 @@ module _ {V : Type 0} where
   well_formed_tail (by x o) h wf = wf.1
 
   -- an active job has no place
-  active_unplaced_step : (y x : ℕ) (h : History V) (d : Operation V V ℕ) (b : Bool) → eqb y x ≡ b → WellFormed (by y d ∷ h) →
-      (is_active (projection h x) ≡ true → end_place (projection h x) ≡ None) → is_active (cond b (d ∷ projection h x) (projection h x)) ≡ true →
-      end_place (cond b (d ∷ projection h x) (projection h x)) ≡ None
-  active_unplaced_step y x h d false e wf ih o = ih o
-  active_unplaced_step y x h opens true e wf ih o = ap end_place (unopened_projection h wf.1 x (omega (arith, eqb-true y x e)))
-  active_unplaced_step y x h (reads c v) true e wf ih o = ih o
-  active_unplaced_step y x h (writes c v) true e wf ih o = ih o
-  active_unplaced_step y x h (commits c) true e wf ih o = absurd (both_ways false refl o)
-  active_unplaced_step y x h (abandons c) true e wf ih o = absurd (both_ways false refl o)
-
   pub active_unplaced : (h : History V) → WellFormed h → (x : ℕ) → is_active (projection h x) ≡ true → end_place (projection h x) ≡ None
   active_unplaced [] wf x o = refl
-  active_unplaced (by y d ∷ h) wf x o = active_unplaced_step y x h d (eqb y x) refl wf (active_unplaced h (well_formed_tail (by y d) h wf) x) o
+  active_unplaced (by y d ∷ h) wf x o = let ih = active_unplaced h (well_formed_tail (by y d) h wf) x in grind (arith, o, ih, wf, unopened_projection h wf.1 x, eqb-true y x)
 
   -- a committed job has a place
   pub committed_ends : (s : List (Operation V V ℕ)) → is_committed s ≡ true → is_some (end_place s) ≡ true
   committed_ends [] e = e
-  committed_ends (opens ∷ s) e = committed_ends s e
-  committed_ends (reads c v ∷ s) e = committed_ends s e
-  committed_ends (writes c v ∷ s) e = committed_ends s e
-  committed_ends (commits p ∷ s) e = refl
-  committed_ends (abandons p ∷ s) e = refl
+  committed_ends (o ∷ s) e = let ih = committed_ends s in grind (arith, ih, e)
 
   pub active_uncommitted : (h : History V) → WellFormed h → (x : ℕ) → is_active (projection h x) ≡ true → is_committed (projection h x) ≡ false
   active_uncommitted h wf x o = false_from_ne_true (is_committed (projection h x)) (λ q. both_ways (is_some (end_place (projection h x))) (ap is_some (active_unplaced h wf x o)) (committed_ends (projection h x) q))

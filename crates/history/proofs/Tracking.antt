@@ -219,12 +219,7 @@ module _ {V : Type 0} where
   -- a job that has read and has no place is open
   reader_step : (y x : ℕ) (d : Operation V V ℕ) (s : List (Operation V V ℕ)) (b : Bool) → (end_place s ≡ None → is_active s ≡ true) → end_place (cond b (d ∷ s) s) ≡ None →
       is_active (cond b (d ∷ s) s) ≡ true
-  reader_step y x d s false ih n = ih n
-  reader_step y x opens s true ih n = refl
-  reader_step y x (reads c v) s true ih n = ih n
-  reader_step y x (writes c v) s true ih n = ih n
-  reader_step y x (commits p) s true ih n = absurd (none-some p (sym n))
-  reader_step y x (abandons p) s true ih n = absurd (none-some p (sym n))
+  reader_step y x d s b ih n = grind (arith, ih, n)
 
   reader_occurs : (x c : ℕ) (v : V) (g h : History V) → Extends h (by x (reads c v) ∷ g) → WellFormed h → end_place (projection h x) ≡ None → is_active (projection h x) ≡ true
   reader_occurs x c v g h here wf n = rw (eq-eqb x x refl) wf.0
