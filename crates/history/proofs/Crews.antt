@@ -24,27 +24,12 @@ module _ {V : Type 0} where
   -- a job is one crew's
   pub one_crew : (run : History V) (w u : ℕ) → 1 ≤ open_job run w → open_job run w ≡ open_job run u → w ≡ u
   one_crew [] w u a e = absurd (omega arith)
-  one_crew (by k opens ∷ run) w u a e = let ih = one_crew run w u in grind (arith, a, e, ih, open_job_numbered run w, open_job_numbered run u, eqb-true k w, eqb-true k u)
-  one_crew (by k (reads c v) ∷ run) w u a e = one_crew run w u a e
-  one_crew (by k (writes c v) ∷ run) w u a e = one_crew run w u a e
-  one_crew (by k (commits p) ∷ run) w u a e = let ih = one_crew run w u in grind (arith, a, e, ih)
-  one_crew (by k (abandons p) ∷ run) w u a e = let ih = one_crew run w u in grind (arith, a, e, ih)
-
-  -- an ending of crew u leaves the job of another crew as it was
-  still_open_active : (run : History V) (u w : ℕ) (o : Operation V V ℕ) (b : Bool) → eqb u w ≡ b → 1 ≤ cond b 0 (open_job run w) →
-      (1 ≤ open_job run w → is_active (projection (by_jobs run) (open_job run w)) ≡ true) →
-      is_active (projection (by (open_job run u) o ∷ by_jobs run) (cond b 0 (open_job run w))) ≡ true
-  still_open_active run u w o true e a ih = absurd (omega arith)
-  still_open_active run u w o false e a ih = rw (ne_eqb (open_job run u) (open_job run w) (λ q. eqb-false u w e (sym (one_crew run w u a (sym q))))) (ih a)
+  one_crew (by k o ∷ run) w u a e = let ih = one_crew run w u in grind (arith, a, e, ih, open_job_numbered run w, open_job_numbered run u, eqb-true k w, eqb-true k u)
 
   -- a crew's job is open
   pub open_job_active : (run : History V) (w : ℕ) → 1 ≤ open_job run w → is_active (projection (by_jobs run) (open_job run w)) ≡ true
   open_job_active [] w a = absurd (omega arith)
-  open_job_active (by u opens ∷ run) w a = let ih = open_job_active run w in grind (arith, a, ih, open_job_numbered run w)
-  open_job_active (by u (reads c v) ∷ run) w a = let ih = open_job_active run w a in cond_both (eqb (open_job run u) (open_job run w)) _ _ (λ s. is_active s ≡ true) (λ _. ih) (λ _. ih)
-  open_job_active (by u (writes c v) ∷ run) w a = let ih = open_job_active run w a in cond_both (eqb (open_job run u) (open_job run w)) _ _ (λ s. is_active s ≡ true) (λ _. ih) (λ _. ih)
-  open_job_active (by u (commits p) ∷ run) w a = still_open_active run u w (commits p) (eqb u w) refl a (open_job_active run w)
-  open_job_active (by u (abandons p) ∷ run) w a = still_open_active run u w (abandons p) (eqb u w) refl a (open_job_active run w)
+  open_job_active (by u o ∷ run) w a = let ih = open_job_active run w in grind (arith, a, ih, open_job_numbered run w, one_crew run w u, eqb-false u w)
 
   pub well_made_tail : (a : Event V V ℕ) (run : History V) → WellMade (a ∷ run) → WellMade run
   well_made_tail (by w o) run wm = wm.1
@@ -60,28 +45,12 @@ module _ {V : Type 0} where
   -- the crew of an open job has it
   pub crew_of_open_job : (run : History V) (w : ℕ) → 1 ≤ open_job run w → crew_of run (open_job run w) ≡ w
   crew_of_open_job [] w a = absurd (omega arith)
-  crew_of_open_job (by u opens ∷ run) w a = let ih = crew_of_open_job run w in grind (arith, a, ih, open_job_numbered run w, eqb-true u w)
-  crew_of_open_job (by u (reads c v) ∷ run) w a = crew_of_open_job run w a
-  crew_of_open_job (by u (writes c v) ∷ run) w a = crew_of_open_job run w a
-  crew_of_open_job (by u (commits p) ∷ run) w a = let ih = crew_of_open_job run w in grind (arith, a, ih)
-  crew_of_open_job (by u (abandons p) ∷ run) w a = let ih = crew_of_open_job run w in grind (arith, a, ih)
+  crew_of_open_job (by u o ∷ run) w a = let ih = crew_of_open_job run w in grind (arith, a, ih, open_job_numbered run w, eqb-true u w)
 
   pub active_positive : (run : History V) → WellMade run → (x : ℕ) → is_active (projection (by_jobs run) x) ≡ true → 1 ≤ x
   active_positive run wm zero o = absurd (both_ways (is_active (projection (by_jobs run) 0)) (ap is_active (projection_zero (by_jobs run) (well_formed run wm))) o)
   active_positive run wm (suc x) o = omega arith
 
-  ended_crew : (run : History V) (u x j : ℕ) (d : Operation V V ℕ) → ((s : List (Operation V V ℕ)) → is_active (d ∷ s) ≡ false) → open_job run u ≡ j → (b : Bool) →
-      eqb j x ≡ b → is_active (cond b (d ∷ projection (by_jobs run) x) (projection (by_jobs run) x)) ≡ true →
-      (is_active (projection (by_jobs run) x) ≡ true → open_job run (crew_of run x) ≡ x) → cond (eqb u (crew_of run x)) 0 (open_job run (crew_of run x)) ≡ x
-  ended_crew run u x j d over q b e o ih = grind (arith, e, o, ih, q, over (projection (by_jobs run) x), eqb-false j x)
-
-  still_active : (s t : List (Operation V V ℕ)) (b : Bool) → is_active s ≡ is_active t → is_active (cond b s t) ≡ true → is_active t ≡ true
-  still_active s t b e o = grind (arith, e, o)
-
   pub active_has_crew : (run : History V) → WellMade run → (x : ℕ) → is_active (projection (by_jobs run) x) ≡ true → open_job run (crew_of run x) ≡ x
   active_has_crew [] wm x o = absurd (both_ways false refl o)
-  active_has_crew (by u opens ∷ run) wm x o = let ih = active_has_crew run wm.1 x in grind (arith, o, ih, wm, active_positive run wm.1 x, eqb-true (suc (openings run)) x)
-  active_has_crew (by u (reads c v) ∷ run) wm x o = active_has_crew run wm.1 x (still_active (reads c v ∷ projection (by_jobs run) x) (projection (by_jobs run) x) (eqb (open_job run u) x) refl o)
-  active_has_crew (by u (writes c v) ∷ run) wm x o = active_has_crew run wm.1 x (still_active (writes c v ∷ projection (by_jobs run) x) (projection (by_jobs run) x) (eqb (open_job run u) x) refl o)
-  active_has_crew (by u (commits p) ∷ run) wm x o = ended_crew run u x (open_job run u) (commits p) (λ s. refl) refl (eqb (open_job run u) x) refl o (active_has_crew run wm.1 x)
-  active_has_crew (by u (abandons p) ∷ run) wm x o = ended_crew run u x (open_job run u) (abandons p) (λ s. refl) refl (eqb (open_job run u) x) refl o (active_has_crew run wm.1 x)
+  active_has_crew (by u d ∷ run) wm x o = let ih = active_has_crew run wm.1 x in grind (arith, o, ih, wm.0, active_positive run wm.1 x, eqb-true u (crew_of run x))
