@@ -61,17 +61,9 @@ module _ {V : Type 0} (n : ℕ) (s : RegisterView V) (w : ℕ) where
       (λ e. let k = reader_parts (suc m) e in omega (arith, f (suc m) k.0 k.1 k.2, ih)) (λ _. omega (arith, ih))
 
 ---- A crew with an open job is in range
-ended_range : (m j u : ℕ) (b : Bool) → 1 ≤ cond b 0 j → (1 ≤ j → UpTo m u) → UpTo m u
-ended_range m j u b a ih = grind (arith, ih, a)
-
 job_range : {V R P : Type 0} (n m : ℕ) (run : Events V R P) → InRange n m run → (u : ℕ) → 1 ≤ open_job run u → UpTo m u
 job_range n m [] r u a = absurd (omega arith)
-job_range n m (by w opens ∷ run) r u a =
-    cond_both (eqb w u) (suc (openings run)) (open_job run u) (λ k. 1 ≤ k → UpTo m u) (λ e _. subst (UpTo m) (eqb-true w u e) r.0) (λ _. job_range n m run r.2 u) a
-job_range n m (by w (reads c v) ∷ run) r u a = job_range n m run r.2 u a
-job_range n m (by w (writes c v) ∷ run) r u a = job_range n m run r.2 u a
-job_range n m (by w (commits p) ∷ run) r u a = ended_range m (open_job run u) u (eqb w u) a (job_range n m run r.2 u)
-job_range n m (by w (abandons p) ∷ run) r u a = ended_range m (open_job run u) u (eqb w u) a (job_range n m run r.2 u)
+job_range n m (by w o ∷ run) r u a = let ih = job_range n m run r.2 u in grind (arith, a, ih, r.0, eqb-true w u)
 
 module _ {V : Type 0} (z : Sizes) (first : ℕ → V) (own : ℕ → ℕ → V) where
   ---- What is accepted with a chooser is accepted at the places that it gave
@@ -129,12 +121,7 @@ module _ {V : Type 0} (z : Sizes) (first : ℕ → V) (own : ℕ → ℕ → V) 
 
   ---- What is accepted at given places is accepted with the script of them
   high_step : (s : RegisterView V) → ((u : ℕ) → s.high u ≤ z.top) → (w : ℕ) (d : Operation V V ℕ) (u : ℕ) → (view_after z.top z.cells s w d).high u ≤ z.top
-  high_step s f w opens u = cond_both (eqb w u) _ _ (λ k. k ≤ z.top) (λ _. omega arith) (λ _. f u)
-  high_step s f w (reads c v) u = f u
-  high_step s f w (writes c v) u = f u
-  high_step s f w (commits p) u = cond_both (eqb w u) _ _ (λ k. k ≤ z.top) (λ _. omega arith)
-      (λ _. cond_both (conflicts s w u z.cells) _ _ (λ k. k ≤ z.top) (λ _. omega (arith, f u)) (λ _. f u))
-  high_step s f w (abandons p) u = cond_both (eqb w u) _ _ (λ k. k ≤ z.top) (λ _. omega arith) (λ _. f u)
+  high_step s f w d u = grind (arith, f u)
 
   high_below : {run : History V} {s : RegisterView V} → ViewRun z.top z.cells first own run s → (u : ℕ) → s.high u ≤ z.top
   high_below ViewRun.starts u = omega arith

@@ -36,11 +36,7 @@ module _ {V : Type 0} where
 
   pub well_formed : (run : History V) → WellMade run → WellFormed (by_jobs run)
   well_formed [] wm = tt
-  well_formed (by w opens ∷ run) wm = (ap suc (sym (openings_by_job run)), well_formed run wm.1)
-  well_formed (by w (reads c v) ∷ run) wm = (open_job_active run w wm.0, well_formed run wm.1)
-  well_formed (by w (writes c v) ∷ run) wm = (open_job_active run w wm.0, well_formed run wm.1)
-  well_formed (by w (commits p) ∷ run) wm = (open_job_active run w wm.0, well_formed run wm.1)
-  well_formed (by w (abandons p) ∷ run) wm = (open_job_active run w wm.0, well_formed run wm.1)
+  well_formed (by w o ∷ run) wm = (grind (arith, wm, openings_by_job run, open_job_active run w), well_formed run wm.1)
 
   -- the crew of an open job has it
   pub crew_of_open_job : (run : History V) (w : ℕ) → 1 ≤ open_job run w → crew_of run (open_job run w) ≡ w

@@ -72,32 +72,22 @@ module _ {V : Type 0} where
   unfolding IsBuffered
   unbuffered_unwritten h x c q w = let k = buffered_when_written x c w.value w.before h w.occurs in none-some k.0 (sym q ∙ k.1)
 
+  pub well_formed_tail : (a : Event V V ℕ) (h : History V) → WellFormed (a ∷ h) → WellFormed h
+  well_formed_tail (by x o) h wf = wf.1
+
   -- a number that no job has: 0, or above the count of openings
   abbrev Unnumbered : History V → ℕ → Type 0
   Unnumbered h x = 1 ≤ x → openings h < x
 
-  active_numbered : (h : History V) (y : ℕ) → ((x : ℕ) → Unnumbered h x → projection h x ≡ []) → is_active (projection h y) ≡ true → (x : ℕ) → Unnumbered h x → y ≡ x → ⊥
-  active_numbered h y fr o x l e = both_ways (is_active (projection h y)) (ap is_active (fr y (rw e l))) o
-
-  projection_other : (y x : ℕ) (h : History V) (d : Operation V V ℕ) → (y ≡ x → ⊥) → projection h x ≡ [] → projection (by y d ∷ h) x ≡ []
-  projection_other y x h d n q = rw (ne_eqb y x n) q
-
   unnumbered_projection : (h : History V) → WellFormed h → (x : ℕ) → Unnumbered h x → projection h x ≡ []
   unnumbered_projection [] wf x l = refl
-  unnumbered_projection (by y opens ∷ h) wf x l = projection_other y x h opens (λ e. let k = l (omega arith) in omega arith) (unnumbered_projection h wf.1 x (λ a. let k = l a in omega arith))
-  unnumbered_projection (by y (reads c v) ∷ h) wf x l = projection_other y x h (reads c v) (active_numbered h y (unnumbered_projection h wf.1) wf.0 x l) (unnumbered_projection h wf.1 x l)
-  unnumbered_projection (by y (writes c v) ∷ h) wf x l = projection_other y x h (writes c v) (active_numbered h y (unnumbered_projection h wf.1) wf.0 x l) (unnumbered_projection h wf.1 x l)
-  unnumbered_projection (by y (commits p) ∷ h) wf x l = projection_other y x h (commits p) (active_numbered h y (unnumbered_projection h wf.1) wf.0 x l) (unnumbered_projection h wf.1 x l)
-  unnumbered_projection (by y (abandons p) ∷ h) wf x l = projection_other y x h (abandons p) (active_numbered h y (unnumbered_projection h wf.1) wf.0 x l) (unnumbered_projection h wf.1 x l)
+  unnumbered_projection (by y d ∷ h) wf x l = let ih = unnumbered_projection h (well_formed_tail (by y d) h wf) in grind (arith, l, wf, ih x, ih y, eqb-true y x)
 
   pub unopened_projection : (h : History V) → WellFormed h → (x : ℕ) → openings h < x → projection h x ≡ []
   unopened_projection h wf x l = unnumbered_projection h wf x (λ _. l)
 
   pub projection_zero : (h : History V) → WellFormed h → projection h 0 ≡ []
   projection_zero h wf = unnumbered_projection h wf 0 (λ l. absurd (omega arith))
-
-  pub well_formed_tail : (a : Event V V ℕ) (h : History V) → WellFormed (a ∷ h) → WellFormed h
-  well_formed_tail (by x o) h wf = wf.1
 
   -- an active job has no place
   pub active_unplaced : (h : History V) → WellFormed h → (x : ℕ) → is_active (projection h x) ≡ true → end_place (projection h x) ≡ None

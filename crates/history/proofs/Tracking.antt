@@ -104,11 +104,7 @@ module _ {V : Type 0} where
 
   -- who acts has no place yet
   pub acting_unplaced : (h : History V) (x : ℕ) (d : Operation V V ℕ) → WellFormed (by x d ∷ h) → end_place (projection h x) ≡ None
-  acting_unplaced h x opens wf = ap end_place (unopened_projection h wf.1 x (omega arith))
-  acting_unplaced h x (reads c v) wf = active_unplaced h wf.1 x wf.0
-  acting_unplaced h x (writes c v) wf = active_unplaced h wf.1 x wf.0
-  acting_unplaced h x (commits p) wf = active_unplaced h wf.1 x wf.0
-  acting_unplaced h x (abandons p) wf = active_unplaced h wf.1 x wf.0
+  acting_unplaced h x d wf = grind (arith, wf, unopened_projection h wf.1 x, active_unplaced h wf.1 x)
 
   -- whoever has a place since this event is the one whose event it is
   place_step : (h : History V) (x z p : ℕ) (d : Operation V V ℕ) (b : Bool) → eqb x z ≡ b → end_place (projection h z) ≡ None →

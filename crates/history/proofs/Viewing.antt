@@ -114,11 +114,7 @@ module _ {V : Type 0} (top n : ℕ) (first : ℕ → V) (run : History V) (s : R
   }
 
   pub well_made_step : (w : ℕ) (d : Operation V V ℕ) → Accepts top n s w d → WellMade run → WellMade (by w d ∷ run)
-  well_made_step w opens ac wm = (rw (← facts.job_is w) ac.0, wm)
-  well_made_step w (reads c v) ac wm = (open_job_of w ac.0, wm)
-  well_made_step w (writes c v) ac wm = (open_job_of w ac.0, wm)
-  well_made_step w (commits p) ac wm = (open_job_of w ac.0, wm)
-  well_made_step w (abandons p) ac wm = (open_job_of w ac.0, wm)
+  well_made_step w d ac wm = (grind (arith, ac, facts.job_is w), wm)
 
   shown : (b : Bool) (o v : V) → cond b o v ≡ unwrap_or (cond b (Some o) None) v
   shown b o v = cond_both b _ _ (λ k. k ≡ unwrap_or (cond b (Some o) None) v) (λ e. rw e refl) (λ e. rw e refl)
