@@ -45,11 +45,7 @@ module _ {V : Type 0} where
     projection_still y p e = rw (ne_eqb (acting run w d) y (not_acting y p e))
 
   crew_still : (run : History V) (w : ℕ) (d : Operation V V ℕ) (y : ℕ) → (acting run w d ≡ y → ⊥) → crew_of (by w d ∷ run) y ≡ crew_of run y
-  crew_still run w opens y n = rw (ne_eqb (suc (openings run)) y n)
-  crew_still run w (reads c v) y n = refl
-  crew_still run w (writes c v) y n = refl
-  crew_still run w (commits p) y n = refl
-  crew_still run w (abandons p) y n = refl
+  crew_still run w d y n = grind (arith, n, eqb-true (suc (openings run)) y)
 
   names_still : (run : History V) (w : ℕ) (d : Operation V V ℕ) → WellMade (by w d ∷ run) → (e : Entry) → Names run e → Names (by w d ∷ run) e
   names_still run w d wm e n =

@@ -25,9 +25,7 @@ eqb_swap a b = same_tests (eqb a b) (eqb b a) (λ e. eq-eqb b a (sym (eqb-true a
 
 -- a closed job counts for nothing
 one_crew : (b : Bool) (j : JobRecord) (x l h : ℕ) (t y : Bool) → Tied b j x l h → cond (t && (b && y)) (j.low.0 + 1) 0 ≡ cond (t && (leb 1 x && y)) (l + 1) 0
-one_crew true j x l h t y (e, a, f, g) = rw (le-leb 1 x a, f) refl
-one_crew false j x l h true y e = rw e refl
-one_crew false j x l h false y e = refl
+one_crew b j x l h t y e = grind (arith, e)
 
 module _ {V : Type 0} (d : V) (r : Register V) (s : RegisterView V) (tie : Tie d r s) (w : ℕ) (z : Sized r w) where
   pub commit_low_bound : Working r w → commit_low r w ≡ commit_lower_bound r.head.sizes.cells r.head.sizes.crews s w

@@ -47,36 +47,26 @@ some_conflict t s w u zero h = refl
 some_conflict t s w u (suc n) h = ap₂ ◌||◌ (h (suc n) (omega arith) (omega arith)) (some_conflict t s w u n (λ c a b. h c a (omega arith)))
 
 pub tied_open : (b : Bool) (j : JobRecord) (x l h : ℕ) → b ≡ true → Tied b j x l h → (x ≡ j.job.0) × (1 ≤ x) × (l ≡ j.low.0) × (h ≡ j.high.0)
-tied_open true j x l h e t = t
-tied_open false j x l h e t = absurd (both_ways false refl e)
+tied_open b j x l h e t = grind (arith, e, t)
 
 pub tied_closed : (b : Bool) (j : JobRecord) (x l h : ℕ) → b ≡ false → Tied b j x l h → x ≡ 0
-tied_closed true j x l h e t = absurd (both_ways true e refl)
-tied_closed false j x l h e t = t
+tied_closed b j x l h e t = grind (arith, e, t)
 
 pub tied_by_job : (b : Bool) (j : JobRecord) (x l h : ℕ) → Tied b j x l h → 1 ≤ x → b ≡ true
-tied_by_job true j x l h t a = refl
-tied_by_job false j x l h t a = absurd (omega arith)
+tied_by_job b j x l h t a = grind (arith, t, a)
 
 tied_from : (b : Bool) (j : JobRecord) (x l h : ℕ) → b ≡ true → (x ≡ j.job.0) × (1 ≤ x) × (l ≡ j.low.0) × (h ≡ j.high.0) → Tied b j x l h
-tied_from true j x l h e t = t
-tied_from false j x l h e t = absurd (both_ways false refl e)
+tied_from b j x l h e t = grind (arith, e, t)
 
 -- one record of the table changed
 tied_put : (t : Bool) (k j : JobRecord) (x x' l l' h h' : ℕ) → Tied (is_open k.standing) k x' l' h' → (t ≡ false → Tied (is_open j.standing) j x l h) →
     Tied (is_open (cond t k j).standing) (cond t k j) (cond t x' x) (cond t l' l) (cond t h' h)
-tied_put true k j x x' l l' h h' p q = p
-tied_put false k j x x' l l' h h' p q = q refl
+tied_put t k j x x' l l' h h' p q = grind (arith, p, q)
 
 -- a high lowered
 tied_lower : (t : Bool) (j : JobRecord) (x l h p : ℕ) → Tied (is_open j.standing) j x l h →
     Tied (is_open (cond (is_open j.standing && t) (lowered p j) j).standing) (cond (is_open j.standing && t) (lowered p j) j) x l (cond t (min h p) h)
-tied_lower t j x l h p q = go (is_open j.standing) t refl q
-  where
-    go : (b t : Bool) → is_open j.standing ≡ b → Tied b j x l h → Tied (is_open (cond (b && t) (lowered p j) j).standing) (cond (b && t) (lowered p j) j) x l (cond t (min h p) h)
-    go true true e (q, a, f, g) = tied_from (is_open j.standing) (lowered p j) x l (min h p) e (q, a, f, omega arith)
-    go true false e q = tied_from (is_open j.standing) j x l h e q
-    go false t e q = rw e q
+tied_lower t j x l h p q = grind (arith, q)
 
 put_same : {A : Type 0} (f : ℕ → A) (k : ℕ) (v : A) → v ≡ f k → (j : ℕ) → updated f k v j ≡ f j
 put_same f k v e j = cond_both (eqb k j) _ _ (λ x. x ≡ f j) (λ q. e ∙ ap f (eqb-true k j q)) (λ _. refl)

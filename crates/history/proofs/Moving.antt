@@ -14,9 +14,6 @@ use Rattle.history.proofs.JobBounds.{ClosesIn, SeesTo, Moves}
 use Rattle.history.proofs.Tracking.{reader_active}
 use Rattle.history.proofs.Crews.{openings_by_job, open_job_active, well_formed, crew_of_open_job, active_positive, active_has_crew}
 
-closes_same : (o : Option ℕ) (l u l' u' : ℕ) → l ≤ l' → u' ≤ u → ClosesIn o l u o l' u'
-closes_same o l u l' u' a b = grind (arith, a, b)
-
 module _ {V : Type 0} (top : ℕ) (run : History V) (b : Bounds) (w : ℕ) (b' : Bounds) where
   abbrev steps : ℕ → List (Operation V V ℕ)
   steps z = projection (by_jobs run) z
