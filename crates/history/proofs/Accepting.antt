@@ -1,5 +1,5 @@
 -- Where places for the jobs rise along precedence, the register accepts every call at them: the low bound of each open job stays below its place, and the high one above.
-use Rattle.std.proofs.Common.{◌≡◌, ℕ, zero, suc, ◌+◌, ◌<◌, ◌≤◌, min, max, Bool, true, false, cond, ◌&&◌, eqb, leb, ◌⊎◌, [], ◌∷◌, None, sym, refl, ap, ◌∙◌, subst, ap₂, inl, inr, arith}
+use Rattle.std.proofs.Common.{◌≡◌, ℕ, zero, suc, ◌+◌, ◌<◌, ◌≤◌, max, Bool, true, false, cond, ◌&&◌, eqb, ◌⊎◌, [], ◌∷◌, None, sym, refl, ap, ◌∙◌, subst, ap₂, inl, inr, arith}
 use Rattle.std.proofs.lemmas.Bool.{eqb-true, eqb-false, both_ways, and_parts, or_cases, cases_lt}
 use Rattle.std.proofs.Math.Logic.{⊎_elim, ⊎_map}
 use Rattle.std.proofs.lemmas.Option.{none-some}
@@ -7,7 +7,7 @@ use Rattle.history.specs.Events.{Operation, Event, Events, History, is_opening, 
 use Rattle.history.specs.Events.Operation.{opens, reads, writes, commits, abandons}
 use Rattle.history.specs.Events.Event.{by}
 use Rattle.history.specs.Projections.{projection, end_place, WellFormed}
-use Rattle.history.specs.Precedence.{Occurs, Wrote, ReadGlobally, CommittedCell, Ended, Precedes}
+use Rattle.history.specs.Precedence.{Wrote, ReadGlobally, CommittedCell, Ended, Precedes}
 use Rattle.history.specs.Precedence.Extends.{here, later}
 use Rattle.history.specs.Precedence.Precedes.{real_time, committed_read, read_committed, committed_committed}
 use Rattle.history.specs.WellMade.{WellMade, Calls, InRange, asked}

@@ -1,5 +1,5 @@
 -- A register that asks a chooser for its places: what it accepts has an order, and what has an order it accepts with a script.
-use Rattle.std.proofs.Common.{◌≡◌, ℕ, zero, suc, ◌+◌, ◌<◌, ◌≤◌, min, max, Bool, true, false, cond, not, ◌&&◌, eqb, leb, ◌↔◌, List, [], ◌∷◌, reverse, sym, refl, ap, subst, arith}
+use Rattle.std.proofs.Common.{◌≡◌, ℕ, zero, suc, ◌+◌, ◌<◌, ◌≤◌, max, true, not, ◌&&◌, eqb, leb, ◌↔◌, List, [], ◌∷◌, reverse, sym, refl, ap, subst, arith}
 use mathlib.Core.List.{reverse_aux}
 use Rattle.std.proofs.lemmas.Bool.{eqb-true, eqb-false, ne_eqb, leb-true, le-leb, le-ltb, lt-ltb, and_parts, not-true, cases_eq, cond_both}
 use Rattle.std.proofs.Math.Logic.{⊎_elim}

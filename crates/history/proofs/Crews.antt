@@ -1,8 +1,7 @@
 -- From crews to jobs: a well-made run of crews is a well-formed history of jobs, and each open job is one crew's.
-use Rattle.std.proofs.Common.{◌≡◌, ℕ, zero, suc, ◌≤◌, Bool, true, false, cond, ◌&&◌, eqb, List, [], ◌∷◌, sym, refl, ap, ◌∙◌, arith}
-use Rattle.std.proofs.lemmas.Bool.{eqb-true, eqb-false, eq-eqb, ne_eqb, both_ways, cond_both}
-use Rattle.history.specs.Events.{Operation, Event, Events, History, is_opening, is_ending, openings, open_job, by_jobs, crew_of}
-use Rattle.history.specs.Events.Operation.{opens, reads, writes, commits, abandons}
+use Rattle.std.proofs.Common.{◌≡◌, ℕ, zero, suc, ◌≤◌, true, false, cond, [], ◌∷◌, refl, ap, arith}
+use Rattle.std.proofs.lemmas.Bool.{eqb-true, eqb-false, both_ways, cond_both}
+use Rattle.history.specs.Events.{Operation, Event, Events, History, is_opening, openings, open_job, by_jobs, crew_of}
 use Rattle.history.specs.Events.Event.{by}
 use Rattle.history.specs.Projections.{projection, is_active, WellFormed}
 use Rattle.history.specs.WellMade.{WellMade}

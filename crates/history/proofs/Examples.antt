@@ -1,5 +1,5 @@
 -- What specs/Examples says of its histories.
-use Rattle.std.proofs.Common.{◌≡◌, ℕ, ◌+◌, ◌^◌, ◌≤◌, Bool, true, false, cond, eqb, leb, T, ◌⊎◌, List, [], ◌∷◌, refl, subst, inl, inr, arith, lit≤}
+use Rattle.std.proofs.Common.{◌≡◌, ℕ, ◌+◌, ◌^◌, ◌≤◌, Bool, true, false, eqb, leb, T, ◌⊎◌, List, [], ◌∷◌, refl, subst, inl, inr, arith, lit≤}
 use Rattle.std.proofs.Math.Logic.{⊎_map, ⊎_swap}
 use Rattle.std.proofs.lemmas.Bool.{eqb-true, both_ways, cases_eq, cond_both}
 use Rattle.choosers.specs.Meaning.{Meaning}

@@ -1,7 +1,7 @@
 -- What a projection says of the history: from a job's own operations to the moments at which they occur.
-use Rattle.std.proofs.Common.{◌≡◌, ℕ, zero, suc, ◌<◌, ◌≤◌, Bool, true, false, cond, eqb, ◌⊎◌, List, [], ◌∷◌, is_some, Some, None, Option, sym, refl, ap, ◌∙◌, subst, inl, inr, arith}
+use Rattle.std.proofs.Common.{◌≡◌, ℕ, zero, suc, ◌<◌, ◌≤◌, Bool, true, false, cond, eqb, ◌⊎◌, List, [], ◌∷◌, is_some, Some, None, sym, refl, ap, ◌∙◌, subst, inl, inr, arith}
 use Rattle.std.proofs.Math.Logic.{⊎_elim}
-use Rattle.std.proofs.lemmas.Bool.{eqb-true, eq-eqb, ne_eqb, both_ways, cases_lt, cond_both, false_from_ne_true}
+use Rattle.std.proofs.lemmas.Bool.{eqb-true, eq-eqb, both_ways, cases_lt, cond_both, false_from_ne_true}
 use Rattle.std.proofs.lemmas.Option.{none-some}
 use Rattle.history.specs.Events.{Operation, Event, Events, History, openings}
 use Rattle.history.specs.Events.Operation.{opens, reads, writes, commits, abandons}
@@ -11,7 +11,6 @@ use Rattle.history.specs.Precedence.{Extends, Occurs, Wrote, ReadGlobally, Commi
 use Rattle.history.specs.Precedence.Extends.{here, later}
 use Rattle.history.specs.Precedence.Precedes.{real_time, committed_read, read_committed, committed_committed}
 use Rattle.history.proofs.ShortForm.{installs}
-
 
 pub occurs_here : {V : Type 0} (h : History V) (d : Operation V V ℕ) (y x : ℕ) → y ≡ x → Occurs (by y d ∷ h) x d h
 occurs_here h d y x e = subst (λ z. Extends (by y d ∷ h) (by z d ∷ h)) e here

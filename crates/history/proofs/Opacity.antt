@@ -2,7 +2,6 @@
 use Rattle.std.proofs.Common.{ℕ, suc, ◌≤◌, cond, List, [], ◌∷◌, arith}
 use Rattle.std.proofs.lemmas.Option.{none-some}
 use Rattle.history.specs.Events.{Operation, History, is_opening, openings, open_job, by_jobs}
-use Rattle.history.specs.Events.Operation.{opens, reads, writes, commits, abandons}
 use Rattle.history.specs.Events.Event.{by}
 use Rattle.history.specs.Projections.{WellFormed}
 use Rattle.history.specs.Values.{ReadsCurrent}
@@ -11,7 +10,7 @@ use Rattle.history.specs.Precedence.Extends.{here, later}
 use Rattle.history.specs.Precedence.Precedes.{real_time, committed_read, read_committed, committed_committed}
 use Rattle.history.specs.SerialExecution.{SeriallyExplained, Opaque}
 use Rattle.history.specs.WellMade.{WellMade}
-use Rattle.history.specs.Bounds.{Bounds, Tracked, bounds_by_job, CrewMoves, CrewRun}
+use Rattle.history.specs.Bounds.{Bounds, Tracked, bounds_by_job, CrewRun}
 use Rattle.history.proofs.Moments.{well_formed_tail}
 use Rattle.history.proofs.Ordering.{places_give_order}
 use Rattle.history.proofs.JobBounds.{BoundsRun}

@@ -1,14 +1,14 @@
 -- Sorted by their places, the jobs stand in a serialization order.
-use Rattle.std.proofs.Common.{◌≡◌, ℕ, zero, suc, ◌<◌, ◌≤◌, Bool, true, false, cond, leb, ◌⊎◌, List, [], ◌∷◌, Some, None, Option, sym, refl, ap, ◌∙◌, inl, inr, arith}
+use Rattle.std.proofs.Common.{◌≡◌, ℕ, zero, suc, ◌<◌, ◌≤◌, Bool, true, false, cond, leb, ◌⊎◌, List, [], ◌∷◌, sym, refl, ap, ◌∙◌, inl, inr, arith}
 use Rattle.std.proofs.Math.Logic.{⊎_elim, ⊎_map}
 use Rattle.std.proofs.lemmas.Bool.{both_ways, cases_eq, cond_both, leb-true, leb-false}
 use Rattle.history.specs.Events.{History, openings}
-use Rattle.history.specs.Projections.{projection, end_place, is_committed, WellFormed}
+use Rattle.history.specs.Projections.{projection, is_committed, WellFormed}
 use Rattle.history.specs.Values.{ReadsCurrent}
 use Rattle.history.specs.Precedence.{Extends, Precedes, In, StandsBefore, Once, Respects, SerializationOrder}
 use Rattle.history.specs.Precedence.Extends.{here, later}
 use Rattle.history.specs.SerialExecution.{SeriallyExplained}
-use Rattle.history.specs.Bounds.{PlacedApart, Placed, sort_key_at, sort_key, Ascending}
+use Rattle.history.specs.Bounds.{Placed, sort_key, Ascending}
 use Rattle.history.proofs.Rows.{extends_total, in_later, in_cases, in_nil, in_head, Distinct, distinct_once}
 use Rattle.history.proofs.Moments.{numbered}
 use Rattle.history.proofs.Serially.{respectful_orders_explain}

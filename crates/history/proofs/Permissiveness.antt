@@ -1,10 +1,9 @@
 -- Permissiveness, both ways: the positions in a serialization order are accepted as places, and what is accepted has a serialization order.
-use Rattle.std.proofs.Common.{◌≡◌, ℕ, suc, cond, ◌+◌, ◌<◌, ◌≤◌, ◌⊎◌, ◌↔◌, List, [], ◌∷◌, subst, inl, inr, arith}
+use Rattle.std.proofs.Common.{◌≡◌, ℕ, suc, cond, ◌+◌, ◌<◌, ◌≤◌, ◌↔◌, List, [], ◌∷◌, subst, arith}
 use Rattle.std.proofs.Math.Logic.{⊎_elim}
 use Rattle.history.specs.Events.{Operation, Events, is_opening, openings, open_job, by_jobs}
-use Rattle.history.specs.Events.Operation.{opens, reads, writes, commits, abandons}
 use Rattle.history.specs.Events.Event.{by}
-use Rattle.history.specs.Precedence.{Extends, Occurs, Precedes, SerializationOrder}
+use Rattle.history.specs.Precedence.{Extends, Precedes, SerializationOrder}
 use Rattle.history.specs.Precedence.Extends.{here, later}
 use Rattle.history.specs.Precedence.Precedes.{real_time, committed_read, read_committed, committed_committed}
 use Rattle.history.specs.WellMade.{WellMade, Calls, WellMadeList}

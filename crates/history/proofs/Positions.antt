@@ -7,7 +7,7 @@ use Rattle.std.proofs.lemmas.Map.Steps.{length-le_from_distinct_below}
 use Rattle.history.specs.Precedence.{Extends, In, StandsBefore, Once}
 use Rattle.history.specs.Precedence.Extends.{here, later}
 use Rattle.history.specs.Acceptance.{position}
-use Rattle.history.proofs.Rows.{extends_trans, extends_length, in_later, in_cases, in_nil, in_head, once_tail, once_head, Distinct, distinct}
+use Rattle.history.proofs.Rows.{extends_trans, extends_length, in_later, in_cases, in_head, once_tail, once_head, Distinct, distinct}
 
 position_at : (x : ℕ) {ea row : List ℕ} → Extends row (x ∷ ea) → Once row → position row x ≡ suc (length ea)
 position_at x here o = rw (eq-eqb x x refl)

@@ -1,6 +1,6 @@
 -- One more call that moves the bounds as it should keeps them in agreement with the history.
-use Rattle.std.proofs.Common.{◌≡◌, ℕ, ◌<◌, ◌≤◌, Bool, true, false, cond, eqb, ◌⊎◌, List, [], ◌∷◌, Some, None, Option, sym, refl, ap, ◌∙◌, subst, inl, inr, arith}
-use Rattle.std.proofs.lemmas.Bool.{eqb-true, eq-eqb, ne_eqb, both_ways, cond_both}
+use Rattle.std.proofs.Common.{◌≡◌, ℕ, ◌<◌, ◌≤◌, Bool, true, cond, eqb, ◌⊎◌, List, ◌∷◌, Some, None, Option, sym, refl, ◌∙◌, subst, inl, inr, arith}
+use Rattle.std.proofs.lemmas.Bool.{eqb-true, eq-eqb, ne_eqb, cond_both}
 use Rattle.std.specs.Option.{option_or}
 use Rattle.std.proofs.Math.Logic.{⊎_elim}
 use Rattle.std.proofs.lemmas.Option.{none-some}
@@ -8,7 +8,7 @@ use Rattle.history.specs.Events.{Operation, Event, History, ends_at}
 use Rattle.history.specs.Events.Operation.{opens, reads, writes, commits, abandons}
 use Rattle.history.specs.Events.Event.{by}
 use Rattle.history.specs.Projections.{projection, is_active, end_place, WellFormed}
-use Rattle.history.specs.Precedence.{Extends, Occurs, Wrote, ReadGlobally, CommittedCell, Ended, Precedes}
+use Rattle.history.specs.Precedence.{Extends, Wrote, ReadGlobally, CommittedCell, Ended, Precedes}
 use Rattle.history.specs.Precedence.Extends.{here, later}
 use Rattle.history.specs.Precedence.Precedes.{real_time, committed_read, read_committed, committed_committed}
 use Rattle.history.specs.Bounds.{PlacedApart, Bounds, Tracked}
