@@ -34,7 +34,7 @@ use Rattle.guarantee.proofs.Counting.{busy_at}
 use Rattle.guarantee.proofs.Invariant.{tie_book}
 use Rattle.guarantee.proofs.Opacity.{b}
 use Rattle.guarantee.proofs.Passing.{NoneOf, Sized, Working, not_damaged, read_by}
-use Rattle.guarantee.proofs.Tied.{Tie, Tied, of_open, tie_abandon, tie_cell, tie_commit, tie_open, tie_own, tie_write, tied_by_job}
+use Rattle.guarantee.proofs.Tied.{Tie, of_open, tie_abandon, tie_cell, tie_commit, tie_open, tie_own, tie_write, tied_by_job}
 
 abbrev pub sizes_of : {V : Type 0} → Register V → Sizes
 sizes_of s = record { top = top; cells = s.head.sizes.cells; crews = s.head.sizes.crews; entries = s.head.sizes.entries }

@@ -1,5 +1,5 @@
 -- The day book against the history: it names just the ended jobs, in ascending places.
-use Rattle.std.proofs.Common.{◌≡◌, ℕ, suc, Bool, true, false, cond, eqb, ◌⊎◌, List, [], ◌∷◌, ◌++◌, is_some, Some, None, sym, refl, ap, ◌∙◌, inl, inr, arith}
+use Rattle.std.proofs.Common.{◌≡◌, ℕ, suc, Bool, true, false, cond, eqb, List, [], ◌∷◌, ◌++◌, is_some, Some, None, sym, refl, ap, ◌∙◌, arith}
 use Rattle.std.proofs.Math.Logic.{⊎_elim}
 use Rattle.std.proofs.lemmas.Bool.{eqb-true, eq-eqb, ne_eqb, both_ways, cond_both}
 use Rattle.std.proofs.lemmas.Option.{none-some}
@@ -7,11 +7,11 @@ use Rattle.terms.specs.declared.records.Ending.TheVariants.{Abandoned, Committed
 use Rattle.terms.specs.declared.records.Entry.{Entry}
 use Rattle.history.specs.Events.{History, Operation, by_jobs, crew_of, ends_at, is_opening, open_job, openings}
 use Rattle.history.specs.Events.Event.{by}
-use Rattle.history.specs.Events.Operation.{abandons, commits, opens, reads, writes}
+use Rattle.history.specs.Events.Operation.{abandons, commits}
 use Rattle.history.specs.Precedence.{In}
 use Rattle.history.specs.Projections.{end_place, is_committed, projection}
 use Rattle.history.specs.WellMade.{WellMade}
-use Rattle.history.proofs.Crews.{crew_of_open_job, open_job_active, openings_by_job, well_formed}
+use Rattle.history.proofs.Crews.{crew_of_open_job, open_job_active, well_formed}
 use Rattle.history.proofs.Moments.{active_uncommitted}
 use Rattle.history.proofs.Rows.{Distinct, in_nil, in_one}
 use Rattle.history.proofs.Tracking.{acting_unplaced}

@@ -1,7 +1,7 @@
 -- The low bound that a commit asks for, in the tables and on the view.
-use Rattle.std.proofs.Common.{◌≡◌, ℕ, zero, suc, ◌+◌, ◌≤◌, max, Bool, true, false, cond, not, ◌&&◌, eqb, leb, sym, refl, ◌∙◌, ap₂, arith}
+use Rattle.std.proofs.Common.{◌≡◌, ℕ, zero, suc, ◌+◌, ◌≤◌, max, Bool, cond, not, ◌&&◌, eqb, leb, sym, refl, ◌∙◌, ap₂, arith}
 use Rattle.std.specs.Cmp.{both_ways as same_tests}
-use Rattle.std.proofs.lemmas.Bool.{eqb-true, eq-eqb, le-leb}
+use Rattle.std.proofs.lemmas.Bool.{eqb-true, eq-eqb}
 use Rattle.terms.specs.declared.records.JobRecord.{JobRecord}
 use Rattle.history.specs.Acceptance.{cells_lower_bound, commit_lower_bound, is_open_reader, readers_lower_bound}
 use Rattle.history.specs.Views.{RegisterView, conflicts}

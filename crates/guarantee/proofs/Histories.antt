@@ -1,11 +1,10 @@
 -- What a history leaves out altered nothing, and what it has was done.
-use Rattle.std.proofs.Common.{◌≡◌, ℕ, ◌+◌, ltb, None, Option, sym, refl, subst}
-use Rattle.std.proofs.lemmas.Bool.{cond_both}
+use Rattle.std.proofs.Common.{◌≡◌, ℕ, None, Option, sym, refl, subst}
 use Rattle.terms.specs.declared.refusals.Refusal.{Refusal}
 use Rattle.history.specs.Events.{Operation}
 use Rattle.history.specs.Events.Operation.{abandons, commits, opens, reads, writes}
-use Rattle.rules.specs.JobCalls.{Outcome, accepted, commit_low, raised_low, refused}
-use Rattle.rules.specs.Registers.{Register, has_written, high_of}
+use Rattle.rules.specs.JobCalls.{Outcome, accepted, refused}
+use Rattle.rules.specs.Registers.{Register}
 use Rattle.rules.specs.declared.calls.Call.{Call}
 use Rattle.rules.specs.declared.calls.Call.TheVariants.{Abandon, Commit, Open, Read, Write}
 use Rattle.guarantee.specs.Histories.{AnswerIsTrue, HistoriesAreTrue, RefusalIsTrue, operation_refused}

@@ -1,7 +1,7 @@
 -- What holds at every moment of a run: the register is tied to a view that runs by the accepted calls, and its day book names the ended jobs.
 use Rattle.std.proofs.Common.{◌≡◌, ℕ, ◌+◌, ◌-◌, ◌*◌, ◌≤◌, false, ltb, List, [], ◌∷◌, length, get_or, take, Some, None, Ok, Err, Option, Result, sym, refl, ap, ◌∙◌, subst, ap₂, arith}
 use Rattle.std.proofs.lemmas.List.{get_or-replicate}
-use Rattle.std.proofs.lemmas.Bool.{both_ways, ltb-false, cond_both}
+use Rattle.std.proofs.lemmas.Bool.{both_ways, ltb-false}
 use Rattle.terms.specs.declared.numbers.Place.{Place}
 use Rattle.terms.specs.declared.records.Ending.TheVariants.{Abandoned, Committed}
 use Rattle.terms.specs.declared.records.Entry.{Entry}
@@ -16,11 +16,11 @@ use Rattle.history.specs.Views.{Accepts, RegisterView, ViewRun, fresh_view, view
 use Rattle.history.specs.WellMade.{WellMade}
 use Rattle.history.proofs.Viewing.{RunFacts, run_facts}
 use Rattle.rules.specs.Contents.{closed_record}
-use Rattle.rules.specs.JobCalls.{Outcome, abandon_outcome, abandoned_at, accepted, commit_low, committed_at, crew_of, entry_of, open_outcome, outcome, raised_low, read_cell, refused, tests_of, write_outcome}
+use Rattle.rules.specs.JobCalls.{Outcome, abandon_outcome, abandoned_at, accepted, commit_low, committed_at, crew_of, entry_of, open_outcome, outcome, read_cell, refused, tests_of, write_outcome}
 use Rattle.rules.specs.Limits.{top}
 use Rattle.rules.specs.Making.{JustStarted}
 use Rattle.rules.specs.Performing.{Entered, Inserted, Performs, moved_if, with_book}
-use Rattle.rules.specs.Registers.{Register, flag_of, has_written, high_of, is_open, job_number, low_of, own_of, record_of}
+use Rattle.rules.specs.Registers.{Register, flag_of, high_of, is_open, job_number, low_of, own_of, record_of}
 use Rattle.rules.specs.Tables.{at, read_flag, spot, written_flag}
 use Rattle.rules.specs.declared.calls.Answer.{Answer}
 use Rattle.rules.specs.declared.calls.Call.{Call}

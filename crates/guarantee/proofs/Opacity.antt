@@ -1,13 +1,13 @@
 -- The day book's order explains what the ended jobs were told, and with the open jobs sorted in it explains what all were told.
-use Rattle.std.proofs.Common.{◌≡◌, ℕ, zero, suc, ◌<◌, ◌≤◌, Bool, true, false, cond, eqb, leb, ◌⊎◌, List, [], ◌∷◌, ◌++◌, is_some, Option, sym, refl, ap, ◌∙◌, inl, inr, arith, lit≤}
+use Rattle.std.proofs.Common.{◌≡◌, ℕ, zero, suc, ◌≤◌, true, false, cond, leb, List, [], ◌∷◌, ◌++◌, is_some, Option, sym, refl, ap, ◌∙◌, arith, lit≤}
 use Rattle.std.proofs.Math.Logic.{⊎_elim}
 use Rattle.std.proofs.lemmas.Bool.{both_ways, cases_Bool, cond_both}
 use Rattle.terms.specs.declared.records.Entry.{Entry}
 use Rattle.choosers.specs.Meaning.{KeepsLaw, Meaning}
 use Rattle.history.specs.Bounds.{Bounds, Placed, Tracked, bounds_by_job, sort_key, sort_key_at}
-use Rattle.history.specs.Events.{Event, History, Operation, by_jobs, openings}
+use Rattle.history.specs.Events.{History, by_jobs, openings}
 use Rattle.history.specs.Events.Event.{by}
-use Rattle.history.specs.Events.Operation.{abandons, commits, opens, reads, writes}
+use Rattle.history.specs.Events.Operation.{opens}
 use Rattle.history.specs.Precedence.{Ended, Extends, In, Occurs, Precedes, Respects, SerializationOrder, StandsBefore}
 use Rattle.history.specs.Precedence.Extends.{here, later}
 use Rattle.history.specs.Projections.{WellFormed, end_place, is_committed, projection}
@@ -22,7 +22,7 @@ use Rattle.history.proofs.Ordering.{Sorted, ascending_is_order, fill, fill_cases
 use Rattle.history.proofs.Rows.{Distinct, distinct_once, in_later, in_nil, in_one}
 use Rattle.history.proofs.Serially.{respectful_orders_explain}
 use Rattle.history.proofs.Tracking.{ended_place}
-use Rattle.history.proofs.Viewing.{crew_run, run_facts}
+use Rattle.history.proofs.Viewing.{crew_run}
 use Rattle.rules.specs.Limits.{top}
 use Rattle.rules.specs.Making.{JustStarted}
 use Rattle.rules.specs.Performing.{All, Ascending, NotAbove}

@@ -1,5 +1,5 @@
 -- What a call that passes the tests has seen to.
-use Rattle.std.proofs.Common.{◌≡◌, ℕ, ◌+◌, ◌≤◌, Bool, true, false, not, ◌||◌, eqb, ltb, [], ◌∷◌, ◌++◌, Some, None, Err, Option, refl, ap, arith}
+use Rattle.std.proofs.Common.{◌≡◌, ℕ, ◌+◌, ◌≤◌, true, false, not, ◌||◌, eqb, ltb, [], ◌∷◌, ◌++◌, Some, None, Err, Option, refl, ap, arith}
 use Rattle.std.proofs.lemmas.Bool.{or_from, le-ltb, ne_eqb, eqb-true, eqb-false, ltb-false, or_parts, not-false, cond_both}
 use Rattle.terms.specs.declared.numbers.CrewNumber.{CrewNumber}
 use Rattle.terms.specs.declared.refusals.Refusal.{Refusal}

@@ -1,6 +1,6 @@
 -- The whole list, both ways.
-use Rattle.std.proofs.Common.{◌≡◌, ℕ, ◌+◌, ◌≤◌, Bool, true, ◌&&◌, ltb, leb, List, [], ◌∷◌, Some, None, Option, Result, sym, refl, ap, subst, arith, lit≤}
-use Rattle.std.proofs.lemmas.Bool.{and_parts, cond_both, leb-true}
+use Rattle.std.proofs.Common.{ℕ, ◌+◌, ◌≤◌, ◌&&◌, leb, List, [], ◌∷◌, Some, None, Option, Result, sym, refl, ap, subst, arith, lit≤}
+use Rattle.std.proofs.lemmas.Bool.{and_parts, leb-true}
 use Rattle.terms.specs.declared.refusals.Refusal.{Refusal}
 use Rattle.choosers.specs.Lawful.{script_lawful}
 use Rattle.choosers.specs.Meaning.{KeepsLaw, Meaning}
@@ -15,11 +15,11 @@ use Rattle.history.proofs.Alike.{Alike, SameCall, by_jobs_alike, calls_alike, or
 use Rattle.history.proofs.Alike.Alike.{more, none}
 use Rattle.history.proofs.Alike.SameCall.{abandon_abandon, commit_commit, open_open, read_read, write_write}
 use Rattle.history.proofs.Choosing.{positions_script}
-use Rattle.rules.specs.JobCalls.{Outcome, accepted, commit_low, crew_of, outcome, raised_low}
+use Rattle.rules.specs.JobCalls.{Outcome, accepted, crew_of, outcome}
 use Rattle.rules.specs.Heads.{Dimensions, SizesInRange}
 use Rattle.rules.specs.Limits.{most_cells, most_crews, most_entries, top}
 use Rattle.rules.specs.Making.{JustStarted}
-use Rattle.rules.specs.Registers.{Register, has_written, high_of, own_of}
+use Rattle.rules.specs.Registers.{Register, own_of}
 use Rattle.rules.specs.Runs.{Performed, Run, Step}
 use Rattle.rules.specs.declared.calls.Answer.{Answer}
 use Rattle.rules.specs.declared.calls.Call.{Call}

@@ -1,7 +1,7 @@
 -- Facts about the rules over any tables.
-use Rattle.std.proofs.Common.{◌≡◌, ℕ, zero, suc, ◌+◌, ◌-◌, ◌<◌, ◌≤◌, max, Bool, true, false, cond, not, ◌&&◌, ◌||◌, eqb, ltb, leb, ◌⊎◌, List, [], ◌∷◌, ◌++◌, length, take, drop, None, Ok, Err, Result, sym, refl, ap, ◌∙◌, ap₂, inl, inr, arith}
+use Rattle.std.proofs.Common.{◌≡◌, ℕ, zero, suc, ◌+◌, ◌-◌, ◌<◌, ◌≤◌, max, Bool, true, false, cond, not, ◌&&◌, eqb, ltb, leb, List, [], ◌∷◌, ◌++◌, length, take, drop, None, Ok, Err, Result, sym, refl, ap, ◌∙◌, ap₂, arith}
 use Rattle.std.proofs.lemmas.List.{get_or_default, take_at, drop_at, length-append, length-take-le, length-drop}
-use Rattle.std.proofs.lemmas.Bool.{eqb-true, eqb-false, ne_eqb, both_ways, ltb-false, leb-true, leb-false, cond_both, and_parts, and_from, or_left, or_right, or_cases, not-true, cases_eq}
+use Rattle.std.proofs.lemmas.Bool.{eqb-false, ne_eqb, both_ways, ltb-false, leb-true, leb-false, cond_both, and_parts, and_from, or_left, or_right, or_cases, not-true, cases_eq}
 use Rattle.std.proofs.Math.Logic.{⊎_elim}
 use Rattle.terms.specs.declared.numbers.Place.{Place}
 use Rattle.terms.specs.declared.records.Entry.{Entry}

@@ -8,14 +8,13 @@ use Rattle.terms.specs.declared.refusals.Refusal.{Refusal}
 use Rattle.terms.specs.declared.refusals.Refusal.TheVariants.{BadLine, BadSize, BookFull, Damaged, JobOpen, NoCell, NoCrew, NoJob, NoPlace, NotFilled, PaperFull, PlacesSpent, Stale, WrongTable}
 use Rattle.choosers.specs.Meaning.{KeepsLaw, Meaning}
 use Rattle.history.specs.Events.{History}
-use Rattle.history.proofs.Viewing.{run_facts}
 use Rattle.rules.specs.Contents.{Fits}
-use Rattle.rules.specs.JobCalls.{Outcome, accepted, call_tests, commit_low, crew_of, damaged, is_opening, outcome, raised_low, refused, wrong_cell}
+use Rattle.rules.specs.JobCalls.{Outcome, accepted, call_tests, crew_of, damaged, is_opening, outcome, refused, wrong_cell}
 use Rattle.rules.specs.Limits.{top}
 use Rattle.rules.specs.Making.{JustStarted}
 use Rattle.rules.specs.Performing.{All}
 use Rattle.rules.specs.Refusing.{first_refusal, if_refused}
-use Rattle.rules.specs.Registers.{Register, has_job, has_written, high_of, own_of, record_of}
+use Rattle.rules.specs.Registers.{Register, has_job, record_of}
 use Rattle.rules.specs.Runs.{Run, Step}
 use Rattle.rules.specs.Tables.{outside}
 use Rattle.rules.specs.declared.calls.Answer.{Answer}
@@ -23,7 +22,7 @@ use Rattle.rules.specs.declared.calls.Call.{Call}
 use Rattle.rules.specs.declared.calls.Call.TheVariants.{Abandon, Commit, Open, Read, Write}
 use Rattle.rules.proofs.Changing.{inside}
 use Rattle.guarantee.specs.Histories.{history_of}
-use Rattle.guarantee.specs.Opacity.{Names, cell_values, day_book}
+use Rattle.guarantee.specs.Opacity.{Names, day_book}
 use Rattle.guarantee.specs.RuleFacts.{SoundHead}
 use Rattle.guarantee.specs.Soundness.{EveryRunIsSound}
 use Rattle.guarantee.proofs.Counting.{busy_at}
