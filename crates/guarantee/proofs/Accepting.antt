@@ -1,6 +1,6 @@
 -- Where the view accepts a call, the register accepts it, and goes on abreast of the view.
 use Rattle.std.proofs.Common.{◌≡◌, ℕ, ◌+◌, ◌≤◌, Bool, true, false, cond, not, ◌&&◌, eqb, ltb, List, [], ◌∷◌, length, None, Ok, Err, Option, Result, sym, refl, ap, ◌∙◌, subst, ap₂, subst₂, arith}
-use Rattle.std.proofs.lemmas.Bool.{eq-eqb, ne_eqb, le-ltb, or_from, not_from_true, ltb-true, cond_both}
+use Rattle.std.proofs.lemmas.Bool.{ne_eqb, le-ltb, or_from, ltb-true, false_from_ne_true}
 use Rattle.terms.specs.declared.numbers.CellNumber.{CellNumber}
 use Rattle.terms.specs.declared.numbers.CrewNumber.{CrewNumber}
 use Rattle.terms.specs.declared.records.Entry.{Entry}
@@ -15,8 +15,8 @@ use Rattle.history.specs.WellMade.{UpTo}
 use Rattle.history.proofs.Alike.{SameCall}
 use Rattle.history.proofs.Alike.SameCall.{abandon_abandon, commit_commit, open_open, read_read, write_write}
 use Rattle.rules.specs.Heads.{Dimensions}
-use Rattle.rules.specs.JobCalls.{Outcome, abandon_outcome, abandoned_at, accepted, commit_low, committed_at, crew_of, damaged, is_opening}
-use Rattle.rules.specs.JobCalls.{open_outcome, outcome, raised_low, read_cell, read_own, refused, tests_of, write_outcome, wrong_cell}
+use Rattle.rules.specs.JobCalls.{Outcome, abandon_outcome, abandoned_at, accepted, call_tests, commit_low, committed_at, crew_of, damaged, is_opening}
+use Rattle.rules.specs.JobCalls.{open_outcome, outcome, raised_low, read_cell, read_own, refused, write_outcome, wrong_cell}
 use Rattle.rules.specs.Limits.{top}
 use Rattle.rules.specs.Performing.{Entered, Performs, moved_if, with_book}
 use Rattle.rules.specs.Refusing.{Tests, first_refusal, if_refused}
@@ -26,14 +26,15 @@ use Rattle.rules.specs.declared.calls.Answer.{Answer}
 use Rattle.rules.specs.declared.calls.Answer.TheVariants.{Ended}
 use Rattle.rules.specs.declared.calls.Call.{Call}
 use Rattle.rules.specs.declared.calls.Call.TheVariants.{Abandon, Commit, Open, Read, Write}
+use Rattle.rules.proofs.Accepting.{sizes_pass}
 use Rattle.guarantee.specs.Histories.{operation}
 use Rattle.guarantee.specs.Permissiveness.{IsAccepted}
 use Rattle.guarantee.proofs.Bounding.{commit_low_bound}
 use Rattle.guarantee.proofs.Counting.{busy_at}
 use Rattle.guarantee.proofs.Invariant.{tie_book}
 use Rattle.guarantee.proofs.Opacity.{b}
-use Rattle.guarantee.proofs.Passing.{NoneOf, Sized, Working, not_damaged}
-use Rattle.guarantee.proofs.Tied.{Tie, Tied, of_open, tie_abandon, tie_cell, tie_commit, tie_open, tie_own, tie_write, tied_by_job}
+use Rattle.guarantee.proofs.Passing.{NoneOf, Sized, Working, not_damaged, read_by}
+use Rattle.guarantee.proofs.Tied.{Tie, of_open, tie_abandon, tie_cell, tie_commit, tie_open, tie_own, tie_write, tied_by_job}
 
 abbrev pub sizes_of : {V : Type 0} → Register V → Sizes
 sizes_of s = record { top = top; cells = s.head.sizes.cells; crews = s.head.sizes.crews; entries = s.head.sizes.entries }
@@ -50,13 +51,6 @@ none_refused (t ∷ ts) ns = rw ns.0 (none_refused ts ns.1)
 
 within : (n k : ℕ) → 1 ≤ k → k ≤ n → outside n k ≡ false
 within n k a b = or_from (eqb k 0) (ltb n k) (ne_eqb k 0 (λ e. omega arith)) (le-ltb n k b)
-
-size_passes : (a b : ℕ) → a ≡ b → not (eqb a b) ≡ false
-size_passes a b e = not_from_true (eqb a b) (eq-eqb a b e)
-
-closed_job : (b : Bool) (j : _) (x l h : ℕ) → Tied b j x l h → x ≡ 0 → b ≡ false
-closed_job true j x l h t e = absurd (omega (arith, t.1))
-closed_job false j x l h t e = refl
 
 module _ {V : Type 0} (d : V) (q : Register V) (view : RegisterView V) (g : Meaning) (r : Register V) (f : Meaning) (ab : Abreast d q view g r f) where
   abbrev z : Sizes
@@ -78,28 +72,10 @@ module _ {V : Type 0} (d : V) (q : Register V) (view : RegisterView V) (g : Mean
   passes : (k : Call V) → outside r.head.sizes.crews (crew_of k) ≡ false → wrong_cell r.head.sizes.cells k ≡ false →
       (is_opening k && has_job r (crew_of k)) ≡ false → (not (is_opening k) && not (has_job r (crew_of k))) ≡ false → (not (is_opening k) && damaged r (crew_of k)) ≡ false →
       (is_opening k && ltb top (r.head.highest + 2)) ≡ false → (is_opening k && eqb (r.head.ended + r.head.active) r.head.sizes.entries) ≡ false → outcome d (f []) r k ≡ accepted d (f []) r k
-  passes k a b c e u v w = ap (λ (o : Option Refusal). if_refused o (λ e. refused e r) (accepted d (f []) r k)) (none_refused (tests_of r k) (
-    size_passes _ _ ab.tie.fits.values,
-    (
-      size_passes _ _ ab.tie.fits.written,
-      (
-        size_passes _ _ ab.tie.fits.read,
-        (
-          size_passes _ _ ab.tie.fits.jobs,
-          (
-            size_passes _ _ ab.tie.fits.own,
-            (
-              size_passes _ _ ab.tie.fits.flags,
-              (
-                size_passes _ _ ab.tie.fits.book,
-                (a, (b, (c, (e, (u, (v, (w, tt))))))),
-              ),
-            ),
-          ),
-        ),
-      ),
-    ),
-  ))
+  passes k a b c e u v w =
+      let tests = call_tests r (is_opening k) (wrong_cell r.head.sizes.cells k) (crew_of k) in
+      ap (λ (o : Option Refusal). if_refused o (λ e. refused e r) (accepted d (f []) r k))
+      (sizes_pass r.head.sizes r.tables tests ab.tie.fits ∙ none_refused tests (a, (b, (c, (e, (u, (v, (w, tt))))))))
 
   sized : (w : ℕ) → UpTo z.crews w → Sized r w
   sized w u = record {
@@ -128,25 +104,24 @@ module _ {V : Type 0} (d : V) (q : Register V) (view : RegisterView V) (g : Mean
       let wk = working (crew_of k) a in
       passes k (within r.head.sizes.crews (crew_of k) s.from_one s.to_crews) c (rw o refl) (rw (o, wk.has) refl) (rw (o, not_damaged r (crew_of k) wk) refl) (rw o refl) (rw o refl)
 
-  tied : (left : Register V) (w : ℕ) (e : Operation V V ℕ) → Tie d left (view_after top r.head.sizes.cells view w e) → Tie d left (view_after top z.cells view w e)
-  tied left w e t = subst (λ (n : ℕ). Tie d left (view_after top n view w e)) (n_is) t
+  -- whatever the day book gets, the register goes on abreast of the view where its tables do
+  goes_on : (left : Register V) (w : ℕ) (e : Operation V V ℕ) (bk : List Entry) {f' g' : Meaning} → left.head.sizes ≡ r.head.sizes → length bk ≡ length left.tables.book →
+      Tie d left (view_after top r.head.sizes.cells view w e) → f' ≡ g' → Abreast d q (view_after top z.cells view w e) g' (with_book left bk) f'
+  goes_on left w e bk sizes len t m = record {
+    tie = tie_book d left bk _ len (subst (λ (n : ℕ). Tie d left (view_after top n view w e)) n_is t);
+    same_sizes = sizes ∙ ab.same_sizes;
+    means = m;
+  }
 
   ---- open
 
   done_open : (w : ℕ) → UpTo z.crews w → has_job r w ≡ false → Done (open_outcome r w) (view_after top z.cells view w opens) g
-  done_open w u j bk b = (
-    tt,
-    record {
-      tie = tie_book d (open_outcome r w).left bk _ (ap length b) (tied (open_outcome r w).left w opens (tie_open d r view ab.tie w (sized w u) j));
-      same_sizes = ab.same_sizes;
-      means = ab.means;
-    },
-  )
+  done_open w u j bk b = (tt, goes_on (open_outcome r w).left w opens bk refl (ap length b) (tie_open d r view ab.tie w (sized w u) j) ab.means)
 
   step_open : (w : CrewNumber) → AcceptsWith g z view w.0 opens → Done (outcome d (f []) r (Open w)) (view_after top z.cells view w.0 opens) g
   step_open w sv =
       let s = sized w.0 sv.0 in
-      let h = closed_job (has_job r w.0) (record_of r w.0) (view.job w.0) (view.low w.0) (view.high w.0) (ab.tie.job_is w.0 s.from_one s.to_crews) sv.1 in
+      let h = false_from_ne_true (has_job r w.0) (λ e. omega (arith, (of_open d r view ab.tie w.0 s e).1, sv.1)) in
       subst (λ (o : Outcome V). Done o (view_after top z.cells view w.0 opens) g)
       (sym (passes (Open w) (within r.head.sizes.crews w.0 s.from_one s.to_crews) refl h refl refl
       (le-ltb top (r.head.highest + 2) (omega (arith, ab.tie.highest_is, sv.2)))
@@ -156,33 +131,18 @@ module _ {V : Type 0} (d : V) (q : Register V) (view : RegisterView V) (g : Mean
   ---- read
 
   done_own : (w c : ℕ) (v : V) → UpTo z.crews w → 1 ≤ c → c ≤ r.head.sizes.cells → has_written r w c ≡ true → Done (read_own d r w c) (view_after top z.cells view w (reads c v)) g
-  done_own w c v u a b e bk q = (
-    tt,
-    record {
-      tie = tie_book d r bk _ (ap length q) (tied r w (reads c v) (tie_own d r view ab.tie w (sized w u) c v a b e));
-      same_sizes = ab.same_sizes;
-      means = ab.means;
-    },
-  )
+  done_own w c v u a b e bk q = (tt, goes_on r w (reads c v) bk refl (ap length q) (tie_own d r view ab.tie w (sized w u) c v a b e) ab.means)
 
   done_cell : (w c : ℕ) (v : V) → UpTo z.crews w → Working r w → 1 ≤ c → c ≤ r.head.sizes.cells → has_written r w c ≡ false →
       Done (read_cell d r w c) (view_after top z.cells view w (reads c v)) g
-  done_cell w c v u wk a b e bk q = (
-    tt,
-    record {
-      tie = tie_book d (read_cell d r w c).left bk _ (ap length q) (tied (read_cell d r w c).left w (reads c v) (tie_cell d r view ab.tie w (sized w u) c v wk a b e));
-      same_sizes = ab.same_sizes;
-      means = ab.means;
-    },
-  )
+  done_cell w c v u wk a b e bk q = (tt, goes_on (read_cell d r w c).left w (reads c v) bk refl (ap length q) (tie_cell d r view ab.tie w (sized w u) c v wk a b e) ab.means)
 
   step_read : (w : CrewNumber) (c : CellNumber) (v : V) → AcceptsWith g z view w.0 (reads c.0 v) → Done (outcome d (f []) r (Read w c)) (view_after top z.cells view w.0 (reads c.0 v)) g
   step_read w c v sv = subst G (sym (passes_work (Read w c) refl (within r.head.sizes.cells c.0 sv.1.0 in_n) sv.0))
-      (cond_both (has_written r w.0 c.0) _ _ G
+      (read_by G d (f []) r w.0 c.0
       (λ e. done_own w.0 c.0 v sv.0.a_crew sv.1.0 in_n e)
-      (λ e. cond_both (ltb (high_of r w.0) (raised_low r w.0 c.0 + 2)) _ _ G
-      (λ l. absurd (omega (arith, ltb-true (high_of r w.0) (raised_low r w.0 c.0 + 2) l, sv.3 (sym (ab.tie.writes_are w.0 c.0 s.from_one s.to_crews sv.1.0 in_n) ∙ e), o.2, o.3, ab.tie.written_is c.0 sv.1.0 in_n)))
-      (λ l. done_cell w.0 c.0 v sv.0.a_crew wk sv.1.0 in_n e)))
+      (λ e l. absurd (omega (arith, ltb-true (high_of r w.0) (raised_low r w.0 c.0 + 2) l, sv.3 (sym (ab.tie.writes_are w.0 c.0 s.from_one s.to_crews sv.1.0 in_n) ∙ e), o.2, o.3, ab.tie.written_is c.0 sv.1.0 in_n)))
+      (λ e l. done_cell w.0 c.0 v sv.0.a_crew wk sv.1.0 in_n e))
     where
       G : Outcome V → Type 0
       G = λ o. Done o (view_after top z.cells view w.0 (reads c.0 v)) g
@@ -202,14 +162,7 @@ module _ {V : Type 0} (d : V) (q : Register V) (view : RegisterView V) (g : Mean
   ---- write
 
   done_write : (w c : ℕ) (v : V) → UpTo z.crews w → 1 ≤ c → c ≤ r.head.sizes.cells → Done (write_outcome r w c v) (view_after top z.cells view w (writes c v)) g
-  done_write w c v u a b bk q = (
-    tt,
-    record {
-      tie = tie_book d (write_outcome r w c v).left bk _ (ap length q) (tied (write_outcome r w c v).left w (writes c v) (tie_write d r view ab.tie w (sized w u) c v a b));
-      same_sizes = ab.same_sizes;
-      means = ab.means;
-    },
-  )
+  done_write w c v u a b bk q = (tt, goes_on (write_outcome r w c v).left w (writes c v) bk refl (ap length q) (tie_write d r view ab.tie w (sized w u) c v a b) ab.means)
 
   step_write : (w : CrewNumber) (c : CellNumber) (v : V) → AcceptsWith g z view w.0 (writes c.0 v) →
       Done (outcome d (f []) r (Write w c v)) (view_after top z.cells view w.0 (writes c.0 v)) g
@@ -228,14 +181,10 @@ module _ {V : Type 0} (d : V) (q : Register V) (view : RegisterView V) (g : Mean
   picks lo hi = ap (λ (h : Meaning). h [] lo hi) ab.means
 
   done_abandon : (w p : ℕ) → AtWork z view w → Done (abandoned_at r w (λ p. Ok (Ended p)) p) (view_after top z.cells view w (abandons p)) (moved_on g (low_of r w) (high_of r w))
-  done_abandon w p k bk i = let s = sized w k.a_crew in (
+  done_abandon w p k bk i = (
     tt,
-    record {
-      tie = tie_book d (abandoned_at r w (λ p. Ok (Ended p)) p).left bk _ i.same_length
-          (tied (abandoned_at r w (λ p. Ok (Ended p)) p).left w (abandons p) (tie_abandon d r view ab.tie w s p (λ p. Ok (Ended p)) (working w k)));
-      same_sizes = ab.same_sizes;
-      means = moved_means (low_of r w) (high_of r w);
-    },
+    goes_on (abandoned_at r w (λ p. Ok (Ended p)) p).left w (abandons p) bk refl i.same_length
+        (tie_abandon d r view ab.tie w (sized w k.a_crew) p (λ p. Ok (Ended p)) (working w k)) (moved_means (low_of r w) (high_of r w)),
   )
 
   step_abandon : (w : CrewNumber) (p : ℕ) → AcceptsWith g z view w.0 (abandons p) →
@@ -253,13 +202,9 @@ module _ {V : Type 0} (d : V) (q : Register V) (view : RegisterView V) (g : Mean
       place = picks (low_of r w.0) (high_of r w.0) ∙ sym (sv.1 ∙ ap₂ (g []) o.2 o.3)
 
   done_commit : (w p : ℕ) → AtWork z view w → Done (committed_at d r w p) (view_after top z.cells view w (commits p)) (moved_on g (commit_low r w) (high_of r w))
-  done_commit w p k bk i = let s = sized w k.a_crew in (
+  done_commit w p k bk i = (
     tt,
-    record {
-      tie = tie_book d (committed_at d r w p).left bk _ i.same_length (tied (committed_at d r w p).left w (commits p) (tie_commit d r view ab.tie w s p (working w k)));
-      same_sizes = ab.same_sizes;
-      means = moved_means (commit_low r w) (high_of r w);
-    },
+    goes_on (committed_at d r w p).left w (commits p) bk refl i.same_length (tie_commit d r view ab.tie w (sized w k.a_crew) p (working w k)) (moved_means (commit_low r w) (high_of r w)),
   )
 
   step_commit : (w : CrewNumber) (p : ℕ) → AcceptsWith g z view w.0 (commits p) →

@@ -1,6 +1,7 @@
 -- The low bound that a commit asks for, in the tables and on the view.
-use Rattle.std.proofs.Common.{◌≡◌, ℕ, zero, suc, ◌+◌, ◌≤◌, max, Bool, true, false, cond, not, ◌&&◌, eqb, leb, sym, refl, ◌∙◌, ap₂, arith}
-use Rattle.std.proofs.lemmas.Bool.{eqb-true, eqb-false, eq-eqb, ne_eqb, le-leb}
+use Rattle.std.proofs.Common.{◌≡◌, ℕ, zero, suc, ◌+◌, ◌≤◌, max, Bool, cond, not, ◌&&◌, eqb, leb, sym, refl, ◌∙◌, ap₂, arith}
+use Rattle.std.specs.Cmp.{both_ways as same_tests}
+use Rattle.std.proofs.lemmas.Bool.{eqb-true, eq-eqb}
 use Rattle.terms.specs.declared.records.JobRecord.{JobRecord}
 use Rattle.history.specs.Acceptance.{cells_lower_bound, commit_lower_bound, is_open_reader, readers_lower_bound}
 use Rattle.history.specs.Views.{RegisterView, conflicts}
@@ -20,17 +21,11 @@ most_crews_lem f n s w zero h = refl
 most_crews_lem f n s w (suc m) h = ap₂ max (h (suc m) (omega arith) (omega arith)) (most_crews_lem f n s w m (λ u a b. h u a (omega arith)))
 
 eqb_swap : (a b : ℕ) → eqb a b ≡ eqb b a
-eqb_swap a b = go (eqb a b) refl
-  where
-    go : (t : Bool) → eqb a b ≡ t → t ≡ eqb b a
-    go true e = sym (eq-eqb b a (sym (eqb-true a b e)))
-    go false e = sym (ne_eqb b a (λ q. eqb-false a b e (sym q)))
+eqb_swap a b = same_tests (eqb a b) (eqb b a) (λ e. eq-eqb b a (sym (eqb-true a b e))) (λ e. eq-eqb a b (sym (eqb-true b a e)))
 
 -- a closed job counts for nothing
 one_crew : (b : Bool) (j : JobRecord) (x l h : ℕ) (t y : Bool) → Tied b j x l h → cond (t && (b && y)) (j.low.0 + 1) 0 ≡ cond (t && (leb 1 x && y)) (l + 1) 0
-one_crew true j x l h t y (e, a, f, g) = rw (le-leb 1 x a, f) refl
-one_crew false j x l h true y e = rw e refl
-one_crew false j x l h false y e = refl
+one_crew b j x l h t y e = grind (arith, e)
 
 module _ {V : Type 0} (d : V) (r : Register V) (s : RegisterView V) (tie : Tie d r s) (w : ℕ) (z : Sized r w) where
   pub commit_low_bound : Working r w → commit_low r w ≡ commit_lower_bound r.head.sizes.cells r.head.sizes.crews s w

@@ -1,7 +1,7 @@
 -- How many crews have a job, and the lengths of tables that a call has changed.
-use Rattle.std.proofs.Common.{◌≡◌, ℕ, zero, suc, ◌+◌, ◌-◌, ◌*◌, ◌<◌, ◌≤◌, Bool, true, false, cond, eqb, leb, List, ◌++◌, length, take, drop, replicate, refl, ap, ◌∙◌, arith}
+use Rattle.std.proofs.Common.{◌≡◌, ℕ, zero, suc, ◌+◌, ◌-◌, ◌*◌, ◌<◌, ◌≤◌, cond, eqb, leb, List, ◌++◌, length, take, drop, replicate, refl, ap, ◌∙◌, arith}
 use Rattle.std.proofs.lemmas.List.{length-take-le, length-drop, length-append, length-replicate}
-use Rattle.std.proofs.lemmas.Bool.{eqb-true, eqb-false, ne_eqb, le-leb}
+use Rattle.std.proofs.lemmas.Bool.{eqb-true, eqb-false, ne_eqb, le-leb, cond_both}
 use Rattle.history.specs.Views.{updated}
 use Rattle.rules.specs.Tables.{cleared, row}
 use Rattle.rules.proofs.Changing.{rows_apart}
@@ -19,11 +19,9 @@ updated_above j w x (suc m) l = rw (ne_eqb w (suc m) (λ e. omega arith)) (ap (�
 
 pub busy_updated : (j : ℕ → ℕ) (w x m : ℕ) → 1 ≤ w → w ≤ m → busy (updated j w x) m + one (j w) ≡ busy j m + one x
 busy_updated j w x zero a b = absurd (omega arith)
-busy_updated j w x (suc m) a b = go (eqb w (suc m)) refl (busy_updated j w x m a)
-  where
-    go : (t : Bool) → eqb w (suc m) ≡ t → (w ≤ m → busy (updated j w x) m + one (j w) ≡ busy j m + one x) → one (cond t x (j (suc m))) + busy (updated j w x) m + one (j w) ≡ one (j (suc m)) + busy j m + one x
-    go true e ih = omega (arith, updated_above j w x m (omega (arith, eqb-true w (suc m) e)), ap (λ (k : ℕ). one (j k)) (eqb-true w (suc m) e))
-    go false e ih = omega (arith, ih (omega (arith, eqb-false w (suc m) e)))
+busy_updated j w x (suc m) a b = cond_both (eqb w (suc m)) _ _ (λ k. one k + busy (updated j w x) m + one (j w) ≡ one (j (suc m)) + busy j m + one x)
+    (λ e. let q = eqb-true w (suc m) e in omega (arith, updated_above j w x m (omega (arith, q)), ap (λ (k : ℕ). one (j k)) q))
+    (λ e. omega (arith, busy_updated j w x m a (omega (arith, eqb-false w (suc m) e))))
 
 pub one_yes : (j : ℕ) → 1 ≤ j → one j ≡ 1
 one_yes j l = rw (le-leb 1 j l) refl

@@ -1,15 +1,14 @@
 -- What a history leaves out altered nothing, and what it has was done.
-use Rattle.std.proofs.Common.{◌≡◌, ℕ, ◌+◌, ltb, None, Option, sym, refl, subst}
-use Rattle.std.proofs.lemmas.Bool.{cond_both}
+use Rattle.std.proofs.Common.{◌≡◌, ℕ, None, Option, sym, refl, subst}
 use Rattle.terms.specs.declared.refusals.Refusal.{Refusal}
 use Rattle.history.specs.Events.{Operation}
 use Rattle.history.specs.Events.Operation.{abandons, commits, opens, reads, writes}
-use Rattle.rules.specs.JobCalls.{Outcome, accepted, commit_low, raised_low, refused}
-use Rattle.rules.specs.Registers.{Register, has_written, high_of}
+use Rattle.rules.specs.JobCalls.{Outcome, accepted, refused}
+use Rattle.rules.specs.Registers.{Register}
 use Rattle.rules.specs.declared.calls.Call.{Call}
 use Rattle.rules.specs.declared.calls.Call.TheVariants.{Abandon, Commit, Open, Read, Write}
 use Rattle.guarantee.specs.Histories.{AnswerIsTrue, HistoriesAreTrue, RefusalIsTrue, operation_refused}
-use Rattle.guarantee.proofs.Passing.{outcome_by, wrong_table}
+use Rattle.guarantee.proofs.Passing.{commit_by, outcome_by, read_by, wrong_table}
 
 module _ {V : Type 0} (d : V) (pick : ℕ → ℕ → ℕ) (r : Register V) where
   abbrev TrueOf : Call V → Outcome V → Type 0
@@ -20,10 +19,9 @@ module _ {V : Type 0} (d : V) (pick : ℕ → ℕ → ℕ) (r : Register V) wher
 
   accepted_true : (k : Call V) → TrueOf k (accepted d pick r k)
   accepted_true (Open w) = (opens, refl, refl)
-  accepted_true (Read w c) = cond_both (has_written r w.0 c.0) _ _ (TrueOf (Read w c)) (λ e. (reads c.0 _, refl, refl))
-      (λ e. cond_both (ltb (high_of r w.0) (raised_low r w.0 c.0 + 2)) _ _ (TrueOf (Read w c)) (λ l. (refl, refl)) (λ l. (reads c.0 _, refl, refl)))
+  accepted_true (Read w c) = read_by (TrueOf (Read w c)) d pick r w.0 c.0 (λ e. (reads c.0 _, refl, refl)) (λ e l. (refl, refl)) (λ e l. (reads c.0 _, refl, refl))
   accepted_true (Write w c v) = (writes c.0 v, refl, refl)
-  accepted_true (Commit w) = cond_both (ltb (high_of r w.0) (commit_low r w.0 + 2)) _ _ (TrueOf (Commit w)) (λ l. (refl, refl)) (λ l. (commits _, refl, refl))
+  accepted_true (Commit w) = commit_by (TrueOf (Commit w)) d pick r w.0 (λ l. (refl, refl)) (λ l. (commits _, refl, refl))
   accepted_true (Abandon w) = (abandons _, refl, refl)
 
 pub histories_are_true : (V : Type 0) → HistoriesAreTrue V

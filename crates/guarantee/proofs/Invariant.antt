@@ -1,7 +1,7 @@
 -- What holds at every moment of a run: the register is tied to a view that runs by the accepted calls, and its day book names the ended jobs.
 use Rattle.std.proofs.Common.{◌≡◌, ℕ, ◌+◌, ◌-◌, ◌*◌, ◌≤◌, false, ltb, List, [], ◌∷◌, length, get_or, take, Some, None, Ok, Err, Option, Result, sym, refl, ap, ◌∙◌, subst, ap₂, arith}
 use Rattle.std.proofs.lemmas.List.{get_or-replicate}
-use Rattle.std.proofs.lemmas.Bool.{both_ways, ltb-false, cond_both}
+use Rattle.std.proofs.lemmas.Bool.{both_ways, ltb-false}
 use Rattle.terms.specs.declared.numbers.Place.{Place}
 use Rattle.terms.specs.declared.records.Ending.TheVariants.{Abandoned, Committed}
 use Rattle.terms.specs.declared.records.Entry.{Entry}
@@ -14,13 +14,13 @@ use Rattle.history.specs.Events.{History, Operation, ends_at, open_job, openings
 use Rattle.history.specs.Events.Event.{by}
 use Rattle.history.specs.Views.{Accepts, RegisterView, ViewRun, fresh_view, view_after}
 use Rattle.history.specs.WellMade.{WellMade}
-use Rattle.history.proofs.Viewing.{run_facts}
+use Rattle.history.proofs.Viewing.{RunFacts, run_facts}
 use Rattle.rules.specs.Contents.{closed_record}
-use Rattle.rules.specs.JobCalls.{Outcome, abandon_outcome, abandoned_at, accepted, commit_low, committed_at, crew_of, entry_of, open_outcome, outcome, raised_low, read_cell, refused, tests_of, write_outcome}
+use Rattle.rules.specs.JobCalls.{Outcome, abandon_outcome, abandoned_at, accepted, commit_low, committed_at, crew_of, entry_of, open_outcome, outcome, read_cell, refused, tests_of, write_outcome}
 use Rattle.rules.specs.Limits.{top}
 use Rattle.rules.specs.Making.{JustStarted}
 use Rattle.rules.specs.Performing.{Entered, Inserted, Performs, moved_if, with_book}
-use Rattle.rules.specs.Registers.{Register, flag_of, has_written, high_of, is_open, job_number, low_of, own_of, record_of}
+use Rattle.rules.specs.Registers.{Register, flag_of, high_of, is_open, job_number, low_of, own_of, record_of}
 use Rattle.rules.specs.Tables.{at, read_flag, spot, written_flag}
 use Rattle.rules.specs.declared.calls.Answer.{Answer}
 use Rattle.rules.specs.declared.calls.Call.{Call}
@@ -30,7 +30,7 @@ use Rattle.guarantee.specs.Histories.{NumberedSo, operation, operation_of, opera
 use Rattle.guarantee.specs.Opacity.{Names, cell_values, day_book}
 use Rattle.guarantee.proofs.Booked.{Booked, acting, booked_ended, booked_plain, names_abandon, names_commit}
 use Rattle.guarantee.proofs.Counting.{none_busy}
-use Rattle.guarantee.proofs.Passing.{NoneOf, Sized, Working, cell_passes, free, outcome_by, sized, working}
+use Rattle.guarantee.proofs.Passing.{NoneOf, Sized, Working, cell_passes, commit_by, free, outcome_by, read_by, sized, working}
 use Rattle.guarantee.proofs.Started.{Fresh, fresh}
 use Rattle.guarantee.proofs.Tied.{Tie, Tied, accepts_abandon, accepts_cell, accepts_commit, accepts_open, accepts_own}
 use Rattle.guarantee.proofs.Tied.{accepts_write, job_tied, tie_abandon, tie_cell, tie_commit, tie_open, tie_own, tie_write}
@@ -41,6 +41,10 @@ pub record Inv {V : Type 0} (d : V) (s : Register V) (run : History V) (r : Regi
   pub tie : Tie d r view
   pub booked : Booked run (day_book r)
   pub keeps : KeepsLaw f
+
+-- what holds of the history and its view
+pub facts_of : {V : Type 0} {d : V} {s : Register V} {run : History V} {r : Register V} {f : Meaning} (inv : Inv d s run r f) → RunFacts top r.head.sizes.cells (cell_values d s) run inv.view
+facts_of {d = d} {s = s} {r = r} inv = run_facts top r.head.sizes.cells (cell_values d s) (own_of d s) inv.went
 
 pub keeps_on : (f : Meaning) (q : Option (ℕ × ℕ)) → KeepsLaw f → KeepsLaw (moved_if f q)
 keeps_on f None k = k
@@ -143,7 +147,7 @@ module _ {V : Type 0} (d : V) (s : Register V) (run : History V) (r : Register V
   reached_refused k e q bk b = (rw q (subst (λ (es : List Entry). Inv d s run (with_book r es) f) (sym b) inv), tt)
 
   number_is : (w : ℕ) → Sized r w → Working r w → job_number r w ≡ open_job run w
-  number_is w z k = sym (job_tied d r inv.view inv.tie w z k) ∙ (run_facts top r.head.sizes.cells (cell_values d s) (own_of d s) inv.went).view_facts.job_is w
+  number_is w z k = sym (job_tied d r inv.view inv.tie w z k) ∙ (facts_of inv).view_facts.job_is w
 
   reached_abandon : (k : Call V) (say : Place → Result (Answer V) Refusal) → Sized r (crew_of k) → Working r (crew_of k) →
       ((p : ℕ) → operation_of k (say (record { 0 = p })) ≡ Some (Operation.abandons p)) → ((p j : ℕ) → NumberedSo (say (record { 0 = p })) j) → Reached k (abandon_outcome (f []) r (crew_of k) say)
@@ -179,7 +183,7 @@ module _ {V : Type 0} (d : V) (s : Register V) (run : History V) (r : Register V
       ac : Does w (Operation.commits p)
       ac =
           let b = inv.keeps.between [] (commit_low r w) (high_of r w) (ltb-false (high_of r w) (commit_low r w + 2) l) in
-          accepts_commit d r inv.view inv.tie w z p wk b.0 b.1 ((run_facts top r.head.sizes.cells (cell_values d s) (own_of d s) inv.went).view_facts.range w)
+          accepts_commit d r inv.view inv.tie w z p wk b.0 b.1 ((facts_of inv).view_facts.range w)
 
       names : Names (by w (Operation.commits p) ∷ run) (entry_of r w p Committed)
       names =
@@ -191,14 +195,13 @@ module _ {V : Type 0} (d : V) (s : Register V) (run : History V) (r : Register V
   reached (Open w) ns =
       let z = sized r (Open w) ns in λ bk b. (
         plain_step w.0 Operation.opens (open_outcome r w.0).left bk (accepts_open d r inv.view inv.tie w.0 z (free r w ns).no_job (free r w ns).places_left) refl refl refl refl b (tie_open d r inv.view inv.tie w.0 z (free r w ns).no_job),
-        omega (arith, inv.tie.opened_is, (run_facts top r.head.sizes.cells (cell_values d s) (own_of d s) inv.went).view_facts.opened_is),
+        omega (arith, inv.tie.opened_is, (facts_of inv).view_facts.opened_is),
       )
   reached (Read w c) ns =
-      cond_both (has_written r w.0 c.0) _ _ (Reached (Read w c))
+      read_by (Reached (Read w c)) d (f []) r w.0 c.0
       (λ e bk b. (plain_step w.0 (Operation.reads c.0 (own_of d r w.0 c.0)) r bk (accepts_own d r inv.view inv.tie w.0 z c.0 wk i.0 i.1 e) refl refl refl refl b (tie_own d r inv.view inv.tie w.0 z c.0 (own_of d r w.0 c.0) i.0 i.1 e), tt))
-      (λ e. cond_both (ltb (high_of r w.0) (raised_low r w.0 c.0 + 2)) _ _ (Reached (Read w c))
-      (λ l. reached_abandon (Read w c) (λ p. Err (Stale p)) z wk (λ p. refl) (λ p j. tt))
-      (λ l bk b. (plain_step w.0 (Operation.reads c.0 (at r.tables.values c.0 d)) (read_cell d r w.0 c.0).left bk (accepts_cell d r inv.view inv.tie w.0 z c.0 wk i.0 i.1 e l) refl refl refl refl b (tie_cell d r inv.view inv.tie w.0 z c.0 (at r.tables.values c.0 d) wk i.0 i.1 e), tt)))
+      (λ e l. reached_abandon (Read w c) (λ p. Err (Stale p)) z wk (λ p. refl) (λ p j. tt))
+      (λ e l bk b. (plain_step w.0 (Operation.reads c.0 (at r.tables.values c.0 d)) (read_cell d r w.0 c.0).left bk (accepts_cell d r inv.view inv.tie w.0 z c.0 wk i.0 i.1 e l) refl refl refl refl b (tie_cell d r inv.view inv.tie w.0 z c.0 (at r.tables.values c.0 d) wk i.0 i.1 e), tt))
     where
       z : Sized r w.0
       z = sized r (Read w c) ns
@@ -216,7 +219,7 @@ module _ {V : Type 0} (d : V) (s : Register V) (run : History V) (r : Register V
   reached (Commit w) ns =
       let z = sized r (Commit w) ns in
       let wk = working r (Commit w) refl ns in
-      cond_both (ltb (high_of r w.0) (commit_low r w.0 + 2)) _ _ (Reached (Commit w)) (λ l. reached_abandon (Commit w) (λ p. Err (NoPlace p)) z wk (λ p. refl) (λ p j. tt)) (λ l. reached_commit w z wk l)
+      commit_by (Reached (Commit w)) d (f []) r w.0 (λ l. reached_abandon (Commit w) (λ p. Err (NoPlace p)) z wk (λ p. refl) (λ p j. tt)) (λ l. reached_commit w z wk l)
   reached (Abandon w) ns =
       let z = sized r (Abandon w) ns in
       let wk = working r (Abandon w) refl ns in

@@ -1,13 +1,13 @@
 -- The day book's order explains what the ended jobs were told, and with the open jobs sorted in it explains what all were told.
-use Rattle.std.proofs.Common.{◌≡◌, ℕ, zero, suc, ◌<◌, ◌≤◌, Bool, true, false, cond, eqb, leb, ◌⊎◌, List, [], ◌∷◌, ◌++◌, is_some, Option, sym, refl, ap, ◌∙◌, inl, inr, arith, lit≤}
-use native.Mathlib.Decide.{dec_le}
-use Rattle.std.proofs.lemmas.Bool.{eqb-true, eqb-false, both_ways}
+use Rattle.std.proofs.Common.{◌≡◌, ℕ, zero, suc, ◌≤◌, true, false, cond, leb, List, [], ◌∷◌, ◌++◌, is_some, Option, sym, refl, ap, ◌∙◌, arith, lit≤}
+use Rattle.std.proofs.Math.Logic.{⊎_elim}
+use Rattle.std.proofs.lemmas.Bool.{both_ways, cases_Bool, cond_both}
 use Rattle.terms.specs.declared.records.Entry.{Entry}
 use Rattle.choosers.specs.Meaning.{KeepsLaw, Meaning}
 use Rattle.history.specs.Bounds.{Bounds, Placed, Tracked, bounds_by_job, sort_key, sort_key_at}
-use Rattle.history.specs.Events.{Event, History, Operation, by_jobs, openings}
+use Rattle.history.specs.Events.{History, by_jobs, openings}
 use Rattle.history.specs.Events.Event.{by}
-use Rattle.history.specs.Events.Operation.{abandons, commits, opens, reads, writes}
+use Rattle.history.specs.Events.Operation.{opens}
 use Rattle.history.specs.Precedence.{Ended, Extends, In, Occurs, Precedes, Respects, SerializationOrder, StandsBefore}
 use Rattle.history.specs.Precedence.Extends.{here, later}
 use Rattle.history.specs.Projections.{WellFormed, end_place, is_committed, projection}
@@ -15,14 +15,14 @@ use Rattle.history.specs.SerialExecution.{SeriallyExplained, execute_serially}
 use Rattle.history.specs.Values.{ReadsCurrent}
 use Rattle.history.specs.Views.{bounds_of}
 use Rattle.history.specs.WellMade.{WellMade}
-use Rattle.history.proofs.Crews.{well_formed}
-use Rattle.history.proofs.Moments.{projection_zero, unopened_projection, well_formed_tail}
+use Rattle.history.proofs.Crews.{openings_tail, well_formed}
+use Rattle.history.proofs.Moments.{committed_ends, numbered, well_formed_tail}
 use Rattle.history.proofs.Opacity.{bounds_run, tracked}
-use Rattle.history.proofs.Ordering.{Sorted, ascending_is_order, insert, insert_cases, insert_distinct, insert_in, insert_keeps, insert_sorted, keys_ascend, order_respects, sorted_ascending}
-use Rattle.history.proofs.Rows.{Distinct, distinct_once, extends_total, in_cases, in_later, in_nil}
+use Rattle.history.proofs.Ordering.{Sorted, ascending_is_order, fill, fill_cases, fill_distinct, fill_in, fill_keeps, fill_sorted, insert, keys_ascend, order_respects, sorted_ascending, stands_by_key}
+use Rattle.history.proofs.Rows.{Distinct, distinct_once, in_later, in_nil, in_one}
 use Rattle.history.proofs.Serially.{respectful_orders_explain}
 use Rattle.history.proofs.Tracking.{ended_place}
-use Rattle.history.proofs.Viewing.{crew_run, run_facts}
+use Rattle.history.proofs.Viewing.{crew_run}
 use Rattle.rules.specs.Limits.{top}
 use Rattle.rules.specs.Making.{JustStarted}
 use Rattle.rules.specs.Performing.{All, Ascending, NotAbove}
@@ -32,7 +32,7 @@ use Rattle.rules.specs.Tables.{row}
 use Rattle.guarantee.specs.Histories.{Numbered, history_of}
 use Rattle.guarantee.specs.Opacity.{DayBookExplains, EveryMomentIsOpaque, EveryRunIsOpaque, Names, OrderExplains, cell_values, day_book, ended_part, has_ended, order_of}
 use Rattle.guarantee.proofs.Booked.{only_ended}
-use Rattle.guarantee.proofs.Invariant.{Inv, at_start, performed}
+use Rattle.guarantee.proofs.Invariant.{Inv, at_start, facts_of, performed}
 use Rattle.guarantee.proofs.Orders.{in_either}
 
 ---- Rows in ascending keys
@@ -40,113 +40,18 @@ use Rattle.guarantee.proofs.Orders.{in_either}
 module _ (k : ℕ → ℕ) where
   sorted_last : (x : ℕ) (a : List ℕ) → Sorted k a → ((y : ℕ) → In y a → k x ≤ k y) → Sorted k (a ++ (x ∷ []))
   sorted_last x [] so f = ((λ z i. absurd (in_nil z i)), tt)
-  sorted_last x (y ∷ a) so f = ((λ z i. go z (in_either z a (x ∷ []) i)), sorted_last x a so.1 (λ z i. f z (in_later z y a i)))
-    where
-      last : (z : ℕ) → (z ≡ x) ⊎ In z [] → k z ≤ k y
-      last z (inl e) = rw e (f y (a, here))
-      last z (inr j) = absurd (in_nil z j)
-
-      go : (z : ℕ) → In z a ⊎ In z (x ∷ []) → k z ≤ k y
-      go z (inl j) = so.0 z j
-      go z (inr j) = last z (in_cases z x [] j)
-
-  stands : (row : List ℕ) → Sorted k row → (x y : ℕ) → In x row → In y row → (x ≡ y → ⊥) → k x < k y → StandsBefore row x y
-  stands row so x y (ea, s) (eb, t) ne lt = go (extends_total s t)
-    where
-      first : (y ≡ x) ⊎ In y ea → StandsBefore row x y
-      first (inl e) = absurd (ne (sym e))
-      first (inr i) = absurd (omega (arith, sorted_ascending k y s so i))
-
-      second : (x ≡ y) ⊎ In x eb → StandsBefore row x y
-      second (inl e) = absurd (ne e)
-      second (inr i) = (eb, t, i)
-
-      go : Extends (x ∷ ea) (y ∷ eb) ⊎ Extends (y ∷ eb) (x ∷ ea) → StandsBefore row x y
-      go (inl u) = first (in_cases y x ea (eb, u))
-      go (inr u) = second (in_cases x y eb (ea, u))
-
-  -- the jobs of 1, .. n that are not closed sorted into the row
-  module _ (closed : ℕ → Bool) where
-    abbrev fill : ℕ → List ℕ → List ℕ
-    fill zero row = row
-    fill (suc n) row = cond (closed (suc n)) (fill n row) (insert k (suc n) (fill n row))
-
-    fill_keeps : (n z : ℕ) (row : List ℕ) → In z row → In z (fill n row)
-    fill_keeps zero z row i = i
-    fill_keeps (suc n) z row i = go (closed (suc n)) (fill_keeps n z row i)
-      where
-        go : (b : Bool) → In z (fill n row) → In z (cond b (fill n row) (insert k (suc n) (fill n row)))
-        go true j = j
-        go false j = insert_keeps k (suc n) z (fill n row) j
-
-    fill_in : (n z : ℕ) (row : List ℕ) → 1 ≤ z → z ≤ n → closed z ≡ false → In z (fill n row)
-    fill_in zero z row a b e = absurd (omega arith)
-    fill_in (suc n) z row a b e = go (closed (suc n)) refl (eqb z (suc n)) refl (λ l. fill_in n z row a l e)
-      where
-        go : (c : Bool) → closed (suc n) ≡ c → (t : Bool) → eqb z (suc n) ≡ t → (z ≤ n → In z (fill n row)) → In z (cond c (fill n row) (insert k (suc n) (fill n row)))
-        go true f true q ih = absurd (both_ways (closed z) e (ap closed (eqb-true z (suc n) q) ∙ f))
-        go true f false q ih = ih (omega (arith, eqb-false z (suc n) q))
-        go false f true q ih = rw (eqb-true z (suc n) q) (insert_in k (suc n) (fill n row))
-        go false f false q ih = insert_keeps k (suc n) z (fill n row) (ih (omega (arith, eqb-false z (suc n) q)))
-
-    fill_cases : (n z : ℕ) (row : List ℕ) → In z (fill n row) → In z row ⊎ ((1 ≤ z) × (z ≤ n) × (closed z ≡ false))
-    fill_cases zero z row i = inl i
-    fill_cases (suc n) z row i = go (closed (suc n)) refl i (fill_cases n z row)
-      where
-        on_n : In z row ⊎ ((1 ≤ z) × (z ≤ n) × (closed z ≡ false)) → In z row ⊎ ((1 ≤ z) × (z ≤ suc n) × (closed z ≡ false))
-        on_n (inl j) = inl j
-        on_n (inr (a, b, e)) = inr (a, omega arith, e)
-
-        Hyp : Type 0
-        Hyp = In z (fill n row) → In z row ⊎ ((1 ≤ z) × (z ≤ n) × (closed z ≡ false))
-
-        new : Hyp → closed (suc n) ≡ false → (z ≡ suc n) ⊎ In z (fill n row) → In z row ⊎ ((1 ≤ z) × (z ≤ suc n) × (closed z ≡ false))
-        new ih f (inl e) = inr (omega arith, omega arith, ap closed e ∙ f)
-        new ih f (inr j) = on_n (ih j)
-
-        go : (b : Bool) → closed (suc n) ≡ b → In z (cond b (fill n row) (insert k (suc n) (fill n row))) → Hyp → In z row ⊎ ((1 ≤ z) × (z ≤ suc n) × (closed z ≡ false))
-        go true f j ih = on_n (ih j)
-        go false f j ih = new ih f (insert_cases k (suc n) z (fill n row) j)
-
-    fill_sorted : (n : ℕ) (row : List ℕ) → Sorted k row → Sorted k (fill n row)
-    fill_sorted zero row so = so
-    fill_sorted (suc n) row so = go (closed (suc n)) (fill_sorted n row so)
-      where
-        go : (b : Bool) → Sorted k (fill n row) → Sorted k (cond b (fill n row) (insert k (suc n) (fill n row)))
-        go true s = s
-        go false s = insert_sorted k (suc n) (fill n row) s
-
-    fill_distinct : (n : ℕ) (row : List ℕ) → ((z : ℕ) → In z row → closed z ≡ true) → Distinct row → Distinct (fill n row)
-    fill_distinct zero row c dd = dd
-    fill_distinct (suc n) row c dd = go (closed (suc n)) refl (fill_distinct n row c dd)
-      where
-        clash : closed (suc n) ≡ false → In (suc n) row ⊎ ((1 ≤ suc n) × (suc n ≤ n) × (closed (suc n) ≡ false)) → ⊥
-        clash f (inl j) = both_ways (closed (suc n)) f (c (suc n) j)
-        clash f (inr (a, b, e)) = omega arith
-
-        go : (b : Bool) → closed (suc n) ≡ b → Distinct (fill n row) → Distinct (cond b (fill n row) (insert k (suc n) (fill n row)))
-        go true f s = s
-        go false f s = insert_distinct k (suc n) (fill n row) (λ i. clash f (fill_cases n (suc n) row i)) s
+  sorted_last x (y ∷ a) so f = ((λ z i. ⊎_elim (so.0 z) (λ j. rw (in_one z x j) (f y (a, here))) (in_either z a (x ∷ []) i)), sorted_last x a so.1 (λ z i. f z (in_later z y a i)))
 
 ---- The ended part
 
 module _ {V : Type 0} (h : History V) (k : ℕ → ℕ) where
   ended_insert : (x : ℕ) → has_ended h x ≡ false → (r : List ℕ) → ended_part h (insert k x r) ≡ ended_part h r
   ended_insert x e [] = rw e
-  ended_insert x e (y ∷ r) = go (leb (k y) (k x)) (ended_insert x e r)
-    where
-      go : (b : Bool) → ended_part h (insert k x r) ≡ ended_part h r → ended_part h (cond b (x ∷ y ∷ r) (y ∷ insert k x r)) ≡ ended_part h (y ∷ r)
-      go true ih = rw e
-      go false ih = ap (λ (q : List ℕ). cond (has_ended h y) (y ∷ q) q) ih
+  ended_insert x e (y ∷ r) = cond_both (leb (k y) (k x)) _ _ (λ (q : List ℕ). ended_part h q ≡ ended_part h (y ∷ r)) (λ _. rw e refl) (λ _. ap (λ (q : List ℕ). cond (has_ended h y) (y ∷ q) q) (ended_insert x e r))
 
   ended_fill : (n : ℕ) (row : List ℕ) → ended_part h (fill k (has_ended h) n row) ≡ ended_part h row
   ended_fill zero row = refl
-  ended_fill (suc n) row = go (has_ended h (suc n)) refl (ended_fill n row)
-    where
-      go : (b : Bool) → has_ended h (suc n) ≡ b → ended_part h (fill k (has_ended h) n row) ≡ ended_part h row →
-          ended_part h (cond b (fill k (has_ended h) n row) (insert k (suc n) (fill k (has_ended h) n row))) ≡ ended_part h row
-      go true e ih = ih
-      go false e ih = ended_insert (suc n) e (fill k (has_ended h) n row) ∙ ih
+  ended_fill (suc n) row = let ih = ended_fill n row in cond_both (has_ended h (suc n)) _ _ (λ (q : List ℕ). ended_part h q ≡ ended_part h row) (λ _. ih) (λ e. ended_insert (suc n) e (fill k (has_ended h) n row) ∙ ih)
 
   ended_whole : (row : List ℕ) → ((x : ℕ) → In x row → has_ended h x ≡ true) → ended_part h row ≡ row
   ended_whole [] f = refl
@@ -155,51 +60,28 @@ module _ {V : Type 0} (h : History V) (k : ℕ → ℕ) where
 ---- Ended jobs
 
 module _ {V : Type 0} where
-  committed_ends : (s : List (Operation V V ℕ)) → is_committed s ≡ true → is_some (end_place s) ≡ true
-  committed_ends [] e = e
-  committed_ends (opens ∷ s) e = committed_ends s e
-  committed_ends (reads c v ∷ s) e = committed_ends s e
-  committed_ends (writes c v ∷ s) e = committed_ends s e
-  committed_ends (commits p ∷ s) e = refl
-  committed_ends (abandons p ∷ s) e = refl
-
   ended_numbered : (h : History V) → WellFormed h → (x : ℕ) → has_ended h x ≡ true → (1 ≤ x) × (x ≤ openings h)
-  ended_numbered h pr x q = (low x q, high (dec_le x (openings h)))
-    where
-      low : (x : ℕ) → has_ended h x ≡ true → 1 ≤ x
-      low zero q = absurd (both_ways (has_ended h 0) (ap (λ s. is_some (end_place s)) (projection_zero h pr)) q)
-      low (suc x) q = omega arith
-
-      high : Dec (x ≤ openings h) → x ≤ openings h
-      high (yes l) = l
-      high (no n) = absurd (both_ways (has_ended h x) (ap (λ s. is_some (end_place s)) (unopened_projection h pr x (omega arith))) q)
+  ended_numbered h pr x q = numbered h pr x (λ e. both_ways (has_ended h x) (ap (λ s. is_some (end_place s)) e) q)
 
   well_formed_since : {h g : History V} → Extends h g → WellFormed h → WellFormed g
   well_formed_since here pr = pr
   well_formed_since (later {a = a} {h = h} s) pr = well_formed_since s (well_formed_tail a h pr)
 
-  openings_on : (a : Event V V ℕ) (h : History V) → openings h ≤ openings (a ∷ h)
-  openings_on (by w opens) h = omega arith
-  openings_on (by w (reads c v)) h = omega arith
-  openings_on (by w (writes c v)) h = omega arith
-  openings_on (by w (commits p)) h = omega arith
-  openings_on (by w (abandons p)) h = omega arith
-
   openings_until : {h g : History V} → Extends h g → openings g ≤ openings h
   openings_until here = omega arith
-  openings_until {g = g} (later {a = a} {h = h} s) = let l = openings_until s in let m = openings_on a h in omega arith
+  openings_until (later {a = by w o} {h = h} s) = let l = openings_until s in let m = openings_tail w o h in omega arith
 
 ---- At every moment
 
 module _ {V : Type 0} (d : V) (s : Register V) (run : History V) (r : Register V) (f : Meaning) (inv : Inv d s run r f) where
   wm : WellMade run
-  wm = (run_facts top r.head.sizes.cells (cell_values d s) (own_of d s) inv.went).well_made
+  wm = (facts_of inv).well_made
 
   pr : WellFormed (by_jobs run)
   pr = well_formed run wm
 
   tr : ReadsCurrent (cell_values d s) (by_jobs run)
-  tr = (run_facts top r.head.sizes.cells (cell_values d s) (own_of d s) inv.went).reads_current
+  tr = (facts_of inv).reads_current
 
   abbrev pub b : Bounds
   b = bounds_by_job top run (bounds_of inv.view)
@@ -218,15 +100,7 @@ module _ {V : Type 0} (d : V) (s : Register V) (run : History V) (r : Register V
 
   above_row : (e : Entry) (es : List Entry) → Names run e → All (NotAbove e) es → All (Names run) es → (y : ℕ) → In y (order_of es) → k e.job.0 ≤ k y
   above_row e [] n a ns y i = absurd (in_nil y i)
-  above_row e (g ∷ es) n a ns y i = go (above_row e es n a.1 ns.1 y) (in_either y (order_of es) (g.job.0 ∷ []) i)
-    where
-      mine : (y ≡ g.job.0) ⊎ In y [] → k e.job.0 ≤ k y
-      mine (inl q) = rw (q, key_place e n, key_place g ns.0) a.0
-      mine (inr j) = absurd (in_nil y j)
-
-      go : (In y (order_of es) → k e.job.0 ≤ k y) → In y (order_of es) ⊎ In y (g.job.0 ∷ []) → k e.job.0 ≤ k y
-      go ih (inl j) = ih j
-      go ih (inr j) = mine (in_cases y g.job.0 [] j)
+  above_row e (g ∷ es) n a ns y i = ⊎_elim (above_row e es n a.1 ns.1 y) (λ j. rw (in_one y g.job.0 j, key_place e n, key_place g ns.0) a.0) (in_either y (order_of es) (g.job.0 ∷ []) i)
 
   book_sorted : (es : List Entry) → Ascending es → All (Names run) es → Sorted k (order_of es)
   book_sorted [] c ns = tt
@@ -234,7 +108,7 @@ module _ {V : Type 0} (d : V) (s : Register V) (run : History V) (r : Register V
 
   respects_by_key : (row : List ℕ) → Sorted k row → Distinct row → ((x : ℕ) → is_committed (projection (by_jobs run) x) ≡ true → In x row) → Respects (by_jobs run) row
   respects_by_key row so di all =
-      record { once = λ x p. distinct_once x p.1 di p.2; all_committed = all; rules = λ x y i j ne q. stands k row so x y i j ne (keys_ascend (by_jobs run) b.low b.high pl x y ne q) }
+      record { once = λ x p. distinct_once x p.1 di p.2; all_committed = all; rules = λ x y i j ne q. stands_by_key k row (sorted_ascending k row so) x y i j ne (keys_ascend (by_jobs run) b.low b.high pl x y ne q) }
 
   abbrev B : List ℕ
   B = order_of (day_book r)
@@ -254,7 +128,7 @@ module _ {V : Type 0} (d : V) (s : Register V) (run : History V) (r : Register V
   -- the cells have the values that an order leaves where it explains
   held : (order : List ℕ) → SeriallyExplained (cell_values d s) (by_jobs run) order → (c : ℕ) → 1 ≤ c → c ≤ r.head.sizes.cells →
       execute_serially (projection (by_jobs run)) (cell_values d s) order c ≡ cell_values d r c
-  held order done c a z = done.same_left c ∙ (sym ((run_facts top r.head.sizes.cells (cell_values d s) (own_of d s) inv.went).view_facts.value_is c) ∙ sym (inv.tie.value_is c a z))
+  held order done c a z = done.same_left c ∙ (sym ((facts_of inv).view_facts.value_is c) ∙ sym (inv.tie.value_is c a z))
 
   -- all jobs: the day book's order with the open jobs sorted in at low + 1
   abbrev whole : List ℕ
@@ -267,21 +141,13 @@ module _ {V : Type 0} (d : V) (s : Register V) (run : History V) (r : Register V
   w_distinct = fill_distinct k (has_ended (by_jobs run)) (openings (by_jobs run)) B b_only inv.booked.distinct
 
   w_all : (x : ℕ) → 1 ≤ x → x ≤ openings (by_jobs run) → In x whole
-  w_all x a l = go (has_ended (by_jobs run) x) refl
-    where
-      go : (t : Bool) → has_ended (by_jobs run) x ≡ t → In x whole
-      go true e = fill_keeps k (has_ended (by_jobs run)) (openings (by_jobs run)) x B (inv.booked.all x e)
-      go false e = fill_in k (has_ended (by_jobs run)) (openings (by_jobs run)) x B a l e
+  w_all x a l = ⊎_elim (λ e. fill_keeps k (has_ended (by_jobs run)) (openings (by_jobs run)) x B (inv.booked.all x e)) (fill_in k (has_ended (by_jobs run)) (openings (by_jobs run)) x B a l) (cases_Bool (has_ended (by_jobs run) x))
 
   w_only : (x : ℕ) → In x whole → (1 ≤ x) × (x ≤ openings (by_jobs run))
-  w_only x i = go (fill_cases k (has_ended (by_jobs run)) (openings (by_jobs run)) x B i)
-    where
-      go : In x B ⊎ ((1 ≤ x) × (x ≤ openings (by_jobs run)) × (has_ended (by_jobs run) x ≡ false)) → (1 ≤ x) × (x ≤ openings (by_jobs run))
-      go (inl j) = ended_numbered (by_jobs run) pr x (b_only x j)
-      go (inr (a, l, e)) = (a, l)
+  w_only x i = ⊎_elim (λ j. ended_numbered (by_jobs run) pr x (b_only x j)) (λ q. (q.0, q.1)) (fill_cases k (has_ended (by_jobs run)) (openings (by_jobs run)) x B i)
 
   w_order : SerializationOrder (by_jobs run) whole
-  w_order = ascending_is_order (by_jobs run) b.low b.high pl whole (λ x p. distinct_once x p.1 w_distinct p.2) w_all w_only (λ x y p. sorted_ascending k x p.1 w_sorted p.2)
+  w_order = ascending_is_order (by_jobs run) b.low b.high pl whole (λ x p. distinct_once x p.1 w_distinct p.2) w_all w_only (sorted_ascending k whole w_sorted)
 
   w_done : SeriallyExplained (cell_values d s) (by_jobs run) whole
   w_done = respectful_orders_explain (cell_values d s) (by_jobs run) whole pr tr (order_respects (by_jobs run) whole pr w_order)

@@ -1,15 +1,13 @@
 -- Rows of jobs and lists of entries with one more in the middle.
 use Rattle.std.proofs.Common.{◌≡◌, ℕ, ◌⊎◌, List, [], ◌∷◌, ◌++◌, sym, ap, ◌∙◌, inl, inr}
+use Rattle.std.proofs.Math.Logic.{⊎_elim, ⊎_map}
 use Rattle.std.proofs.lemmas.List.{append-nil, append_assoc}
 use Rattle.terms.specs.declared.records.Entry.{Entry}
 use Rattle.history.specs.Precedence.{Extends, In}
 use Rattle.history.specs.Precedence.Extends.{here, later}
-use Rattle.history.proofs.Rows.{Distinct, in_cases, in_later}
+use Rattle.history.proofs.Rows.{Distinct, in_cases, in_head, in_later}
 use Rattle.rules.specs.Performing.{All, Ascending, NotAbove}
 use Rattle.guarantee.specs.Opacity.{order_of}
-
-abbrev pub same : ℕ → ℕ
-same x = x
 
 since_app : {A : Type 0} {x y : List A} (z : List A) → Extends x y → Extends (x ++ z) (y ++ z)
 since_app z here = here
@@ -24,44 +22,20 @@ in_right z (x ∷ a) c i = in_later z x (a ++ c) (in_right z a c i)
 
 pub in_either : (z : ℕ) (a c : List ℕ) → In z (a ++ c) → In z a ⊎ In z c
 in_either z [] c i = inr i
-in_either z (x ∷ a) c i = go (in_cases z x (a ++ c) i) (in_either z a c)
-  where
-    last : In z a ⊎ In z c → In z (x ∷ a) ⊎ In z c
-    last (inl j) = inl (in_later z x a j)
-    last (inr j) = inr j
-
-    go : (z ≡ x) ⊎ In z (a ++ c) → (In z (a ++ c) → In z a ⊎ In z c) → In z (x ∷ a) ⊎ In z c
-    go (inl e) ih = inl (a, rw e here)
-    go (inr j) ih = last (ih j)
+in_either z (x ∷ a) c i = ⊎_elim (λ e. inl (in_head z x a e)) (λ j. ⊎_map (in_later z x a) (λ k. k) (in_either z a c j)) (in_cases z x (a ++ c) i)
 
 pub in_mid : (z x : ℕ) (a c : List ℕ) → In z (a ++ (x ∷ c)) → (z ≡ x) ⊎ In z (a ++ c)
-in_mid z x a c i = go (in_either z a (x ∷ c) i)
-  where
-    last : (z ≡ x) ⊎ In z c → (z ≡ x) ⊎ In z (a ++ c)
-    last (inl e) = inl e
-    last (inr j) = inr (in_right z a c j)
-
-    go : In z a ⊎ In z (x ∷ c) → (z ≡ x) ⊎ In z (a ++ c)
-    go (inl j) = inr (in_left z a c j)
-    go (inr j) = last (in_cases z x c j)
+in_mid z x a c i = ⊎_elim (λ j. inr (in_left z a c j)) (λ j. ⊎_map (λ e. e) (in_right z a c) (in_cases z x c j)) (in_either z a (x ∷ c) i)
 
 pub in_mid_keeps : (z x : ℕ) (a c : List ℕ) → In z (a ++ c) → In z (a ++ (x ∷ c))
-in_mid_keeps z x a c i = go (in_either z a c i)
-  where
-    go : In z a ⊎ In z c → In z (a ++ (x ∷ c))
-    go (inl j) = in_left z a (x ∷ c) j
-    go (inr j) = in_right z a (x ∷ c) (in_later z x c j)
+in_mid_keeps z x a c i = ⊎_elim (in_left z a (x ∷ c)) (λ j. in_right z a (x ∷ c) (in_later z x c j)) (in_either z a c i)
 
 pub in_mid_here : (x : ℕ) (a c : List ℕ) → In x (a ++ (x ∷ c))
 in_mid_here x a c = in_right x a (x ∷ c) (c, here)
 
 pub distinct_mid : (x : ℕ) (a c : List ℕ) → Distinct (a ++ c) → (In x (a ++ c) → ⊥) → Distinct (a ++ (x ∷ c))
 distinct_mid x [] c d n = (n, d)
-distinct_mid x (y ∷ a) c d n = ((λ i. go (in_mid y x a c i)), distinct_mid x a c d.1 (λ i. n (in_later x y (a ++ c) i)))
-  where
-    go : (y ≡ x) ⊎ In y (a ++ c) → ⊥
-    go (inl e) = n (a ++ c, rw e here)
-    go (inr j) = d.0 j
+distinct_mid x (y ∷ a) c d n = ((λ i. ⊎_elim (λ e. n (in_head x y (a ++ c) (sym e))) d.0 (in_mid y x a c i)), distinct_mid x a c d.1 (λ i. n (in_later x y (a ++ c) i)))
 
 ---- Entries
 

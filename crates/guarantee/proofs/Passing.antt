@@ -1,17 +1,17 @@
 -- What a call that passes the tests has seen to.
-use Rattle.std.proofs.Common.{◌≡◌, ℕ, ◌+◌, ◌≤◌, Bool, true, false, not, ◌||◌, eqb, ltb, [], ◌∷◌, ◌++◌, Some, None, Option, refl, ap, arith}
+use Rattle.std.proofs.Common.{◌≡◌, ℕ, ◌+◌, ◌≤◌, true, false, not, ◌||◌, eqb, ltb, [], ◌∷◌, ◌++◌, Some, None, Err, Option, refl, ap, arith}
 use Rattle.std.proofs.lemmas.Bool.{or_from, le-ltb, ne_eqb, eqb-true, eqb-false, ltb-false, or_parts, not-false, cond_both}
 use Rattle.terms.specs.declared.numbers.CrewNumber.{CrewNumber}
 use Rattle.terms.specs.declared.refusals.Refusal.{Refusal}
-use Rattle.terms.specs.declared.refusals.Refusal.TheVariants.{WrongTable}
+use Rattle.terms.specs.declared.refusals.Refusal.TheVariants.{NoPlace, Stale, WrongTable}
 use Rattle.terms.specs.declared.refusals.TableName.{TableName}
 use Rattle.terms.specs.declared.refusals.TableName.TheVariants.{Book, Flags, JobRecords, OwnValues, ReadPlaces, Values, WrittenPlaces}
 use Rattle.rules.specs.Contents.{Contents, Fits}
 use Rattle.rules.specs.Heads.{Dimensions}
-use Rattle.rules.specs.JobCalls.{Outcome, accepted, call_tests, crew_of, damaged, is_opening, outcome, refused, tests_of, wrong_cell}
+use Rattle.rules.specs.JobCalls.{Outcome, abandon_outcome, accepted, call_tests, commit_low, commit_outcome, committed_at, crew_of, damaged, is_opening, outcome, raised_low, read_cell, read_outcome, read_own, refused, tests_of, wrong_cell}
 use Rattle.rules.specs.Limits.{top}
 use Rattle.rules.specs.Refusing.{Tests, first_refusal, if_refused, size_tests}
-use Rattle.rules.specs.Registers.{Register, has_job, high_of, low_of}
+use Rattle.rules.specs.Registers.{Register, has_job, has_written, high_of, low_of}
 use Rattle.rules.specs.declared.calls.Call.{Call}
 use Rattle.rules.specs.declared.calls.Call.TheVariants.{Open}
 use Rattle.rules.proofs.Changing.{inside}
@@ -47,6 +47,17 @@ module _ {V : Type 0} where
   -- what is the same where no test refuses is the same
   pub same_outcome : (d e : V) (pick : ℕ → ℕ → ℕ) (r : Register V) (k : Call V) → (NoneOf (tests_of r k) → accepted d pick r k ≡ accepted e pick r k) → outcome d pick r k ≡ outcome e pick r k
   same_outcome d e pick r k = same_unless_refused r (tests_of r k) (accepted d pick r k) (accepted e pick r k)
+
+  -- what a read or a commit that no test refuses can come to
+  pub read_by : (P : Outcome V → Type 0) (d : V) (pick : ℕ → ℕ → ℕ) (r : Register V) (w c : ℕ) → (has_written r w c ≡ true → P (read_own d r w c)) →
+      (has_written r w c ≡ false → ltb (high_of r w) (raised_low r w c + 2) ≡ true → P (abandon_outcome pick r w (λ p. Err (Stale p)))) →
+      (has_written r w c ≡ false → ltb (high_of r w) (raised_low r w c + 2) ≡ false → P (read_cell d r w c)) → P (read_outcome d pick r w c)
+  read_by P d pick r w c own stale cell = cond_both (has_written r w c) _ _ P own (λ e. cond_both (ltb (high_of r w) (raised_low r w c + 2)) _ _ P (stale e) (cell e))
+
+  pub commit_by : (P : Outcome V → Type 0) (d : V) (pick : ℕ → ℕ → ℕ) (r : Register V) (w : ℕ) →
+      (ltb (high_of r w) (commit_low r w + 2) ≡ true → P (abandon_outcome pick r w (λ p. Err (NoPlace p)))) →
+      (ltb (high_of r w) (commit_low r w + 2) ≡ false → P (committed_at d r w (pick (commit_low r w) (high_of r w)))) → P (commit_outcome d pick r w)
+  commit_by P d pick r w no_place placed = cond_both (ltb (high_of r w) (commit_low r w + 2)) _ _ P no_place placed
 
 ---- The tables and the crew
 
@@ -85,11 +96,8 @@ OfTables (t ∷ ts) = ((table : TableName) × (t.1 ≡ WrongTable table)) × OfT
 
 first_table : (ts us : Tests) → OfTables ts → (NoneOf ts → ⊥) → (table : TableName) × (first_refusal (ts ++ us) ≡ Some (WrongTable table))
 first_table [] us o n = absurd (n tt)
-first_table (t ∷ ts) us o n = go t.0 refl (first_table ts us o.1)
-  where
-    go : (b : Bool) → t.0 ≡ b → ((NoneOf ts → ⊥) → (table : TableName) × (first_refusal (ts ++ us) ≡ Some (WrongTable table))) → (table : TableName) × (first_refusal (t ∷ ts ++ us) ≡ Some (WrongTable table))
-    go true e ih = (o.0.0, rw e (ap Some o.0.1))
-    go false e ih = let q = ih (λ ns. n (e, ns)) in (q.0, rw e q.1)
+first_table (t ∷ ts) us o n = cond_both t.0 (Some t.1) (first_refusal (ts ++ us)) (λ (q : Option Refusal). (table : TableName) × (q ≡ Some (WrongTable table)))
+    (λ e. (o.0.0, ap Some o.0.1)) (λ e. first_table ts us o.1 (λ ns. n (e, ns)))
 
 pub wrong_table : {V : Type 0} (d : V) (pick : ℕ → ℕ → ℕ) (r : Register V) (k : Call V) → (Fits r.head.sizes r.tables → ⊥) → (table : TableName) × (outcome d pick r k ≡ refused (WrongTable table) r)
 wrong_table d pick r k n =

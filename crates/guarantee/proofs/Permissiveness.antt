@@ -1,6 +1,6 @@
 -- The whole list, both ways.
-use Rattle.std.proofs.Common.{◌≡◌, ℕ, ◌+◌, ◌≤◌, Bool, true, ◌&&◌, ltb, leb, List, [], ◌∷◌, Some, None, Option, Result, sym, refl, ap, subst, arith, lit≤}
-use Rattle.std.proofs.lemmas.Bool.{and_parts, cond_both, leb-true}
+use Rattle.std.proofs.Common.{ℕ, ◌+◌, ◌≤◌, ◌&&◌, leb, List, [], ◌∷◌, Some, None, Option, Result, sym, refl, ap, subst, arith, lit≤}
+use Rattle.std.proofs.lemmas.Bool.{and_parts, leb-true}
 use Rattle.terms.specs.declared.refusals.Refusal.{Refusal}
 use Rattle.choosers.specs.Lawful.{script_lawful}
 use Rattle.choosers.specs.Meaning.{KeepsLaw, Meaning}
@@ -15,11 +15,11 @@ use Rattle.history.proofs.Alike.{Alike, SameCall, by_jobs_alike, calls_alike, or
 use Rattle.history.proofs.Alike.Alike.{more, none}
 use Rattle.history.proofs.Alike.SameCall.{abandon_abandon, commit_commit, open_open, read_read, write_write}
 use Rattle.history.proofs.Choosing.{positions_script}
-use Rattle.rules.specs.JobCalls.{Outcome, accepted, commit_low, crew_of, outcome, raised_low}
+use Rattle.rules.specs.JobCalls.{Outcome, accepted, crew_of, outcome}
 use Rattle.rules.specs.Heads.{Dimensions, SizesInRange}
 use Rattle.rules.specs.Limits.{most_cells, most_crews, most_entries, top}
 use Rattle.rules.specs.Making.{JustStarted}
-use Rattle.rules.specs.Registers.{Register, has_written, high_of, own_of}
+use Rattle.rules.specs.Registers.{Register, own_of}
 use Rattle.rules.specs.Runs.{Performed, Run, Step}
 use Rattle.rules.specs.declared.calls.Answer.{Answer}
 use Rattle.rules.specs.declared.calls.Call.{Call}
@@ -32,7 +32,7 @@ use Rattle.guarantee.specs.RuleFacts.{SoundHead}
 use Rattle.guarantee.proofs.Accepting.{Abreast, performed, sizes_of}
 use Rattle.guarantee.proofs.Invariant.{keeps_on, start_tie}
 use Rattle.guarantee.proofs.Opacity.{every_run_is_opaque}
-use Rattle.guarantee.proofs.Passing.{outcome_by}
+use Rattle.guarantee.proofs.Passing.{commit_by, outcome_by, read_by}
 use Rattle.guarantee.proofs.RuleFacts.{every_call_can_be_performed}
 use Rattle.guarantee.proofs.Soundness.{first_sound}
 
@@ -48,10 +48,9 @@ KindIfAccepted k a = IsAccepted a → Kind k (operation_of k a)
 module _ {V : Type 0} (d : V) where
   accepted_kind : (f : Meaning) (r : Register V) (k : Call V) → KindIfAccepted k (accepted d (f []) r k).answer
   accepted_kind f r (Open w) = λ i. open_open
-  accepted_kind f r (Read w c) = cond_both (has_written r w.0 c.0) _ _ (λ (o : Outcome V). KindIfAccepted (Read w c) o.answer) (λ e i. read_read)
-      (λ e. cond_both (ltb (high_of r w.0) (raised_low r w.0 c.0 + 2)) _ _ (λ (o : Outcome V). KindIfAccepted (Read w c) o.answer) (λ l i. absurd i) (λ l i. read_read))
+  accepted_kind f r (Read w c) = read_by (λ (o : Outcome V). KindIfAccepted (Read w c) o.answer) d (f []) r w.0 c.0 (λ e i. read_read) (λ e l i. absurd i) (λ e l i. read_read)
   accepted_kind f r (Write w c v) = λ i. write_write
-  accepted_kind f r (Commit w) = cond_both (ltb (high_of r w.0) (commit_low r w.0 + 2)) _ _ (λ (o : Outcome V). KindIfAccepted (Commit w) o.answer) (λ l i. absurd i) (λ l i. commit_commit)
+  accepted_kind f r (Commit w) = commit_by (λ (o : Outcome V). KindIfAccepted (Commit w) o.answer) d (f []) r w.0 (λ l i. absurd i) (λ l i. commit_commit)
   accepted_kind f r (Abandon w) = λ i. abandon_abandon
 
   outcome_kind : (f : Meaning) (r : Register V) (k : Call V) → KindIfAccepted k (outcome d (f []) r k).answer
@@ -105,12 +104,11 @@ every_list_can_be_performed V d s f j ke ks = (sound_run d s f (first_sound s j)
 
 ---- From an order to every run
 
-last_holds : (a b c d e f : Bool) → ((a && b) && ((c && d) && (e && f))) ≡ true → f ≡ true
-last_holds a b c d e f q = (and_parts e f (and_parts (c && d) (e && f) (and_parts (a && b) ((c && d) && (e && f)) q).1).1).1
-
 entries_fit : (z : Dimensions) → SizesInRange z → z.entries ≤ most_entries
-entries_fit z q = leb-true z.entries most_entries
-    (last_holds (leb 1 z.cells) (leb z.cells most_cells) (leb 1 z.crews) (leb z.crews most_crews) (leb 1 z.entries) (leb z.entries most_entries) q)
+entries_fit z q =
+    let p = and_parts (leb 1 z.cells && leb z.cells most_cells) ((leb 1 z.crews && leb z.crews most_crews) && (leb 1 z.entries && leb z.entries most_entries)) q in
+    let e = and_parts (leb 1 z.crews && leb z.crews most_crews) (leb 1 z.entries && leb z.entries most_entries) p.1 in
+    leb-true z.entries most_entries (and_parts (leb 1 z.entries) (leb z.entries most_entries) e.1).1
 
 module _ {V : Type 0} (d : V) (s : Register V) (j : JustStarted s.head s.tables) where
   at_first : (f₀ : Meaning) → Abreast d s (fresh_view (cell_values d s) (own_of d s)) f₀ s f₀

@@ -1,7 +1,8 @@
 -- Facts about the rules over any tables.
-use Rattle.std.proofs.Common.{◌≡◌, ℕ, zero, suc, ◌+◌, ◌-◌, ◌<◌, ◌≤◌, max, Bool, true, false, cond, not, ◌&&◌, ◌||◌, eqb, ltb, leb, ◌⊎◌, List, [], ◌∷◌, ◌++◌, length, take, drop, None, Ok, Err, Result, sym, refl, ap, ◌∙◌, ap₂, inl, inr, arith}
+use Rattle.std.proofs.Common.{◌≡◌, ℕ, zero, suc, ◌+◌, ◌-◌, ◌<◌, ◌≤◌, max, Bool, true, false, cond, not, ◌&&◌, eqb, ltb, leb, List, [], ◌∷◌, ◌++◌, length, take, drop, None, Ok, Err, Result, sym, refl, ap, ◌∙◌, ap₂, arith}
 use Rattle.std.proofs.lemmas.List.{get_or_default, take_at, drop_at, length-append, length-take-le, length-drop}
-use Rattle.std.proofs.lemmas.Bool.{eqb-true, eqb-false, ne_eqb, both_ways, ltb-false, leb-true, leb-false, cond_both, and_parts, and_from, or_left, or_right, or_cases, not-true}
+use Rattle.std.proofs.lemmas.Bool.{eqb-false, ne_eqb, both_ways, ltb-false, leb-true, leb-false, cond_both, and_parts, and_from, or_left, or_right, or_cases, not-true, cases_eq}
+use Rattle.std.proofs.Math.Logic.{⊎_elim}
 use Rattle.terms.specs.declared.numbers.Place.{Place}
 use Rattle.terms.specs.declared.records.Entry.{Entry}
 use Rattle.terms.specs.declared.refusals.Refusal.{Refusal}
@@ -19,7 +20,8 @@ use Rattle.rules.specs.declared.calls.Call.TheVariants.{Abandon, Commit, Open, R
 use Rattle.rules.proofs.Changing.{inside, most_at, most_least, spot_in}
 use Rattle.guarantee.specs.RuleFacts.{AtLeastEach, CommitBoundIsLargest, EveryCallCanBePerformed, NoOutcomeDependsOnDefault, ReadsWritten, SoundHead}
 use Rattle.guarantee.proofs.Opacity.{b}
-use Rattle.guarantee.proofs.Passing.{NoneOf, Sized, Working, cell_passes, free, outcome_by, same_outcome, sized, working}
+use Rattle.guarantee.proofs.Orders.{all_map}
+use Rattle.guarantee.proofs.Passing.{NoneOf, Sized, Working, cell_passes, commit_by, free, outcome_by, read_by, same_outcome, sized, working}
 
 each_same : {A : Type 0} (f g : ℕ → A → A) (k : ℕ) (xs : List A) → ((c : ℕ) (x : A) → k ≤ c → c < k + length xs → f c x ≡ g c x) → each_from k f xs ≡ each_from k g xs
 each_same f g k [] h = refl
@@ -70,12 +72,11 @@ module _ {V : Type 0} (d : V) (f : Meaning) (r : Register V) (ke : KeepsLaw f) (
 
   sound_accepted : (k : Call V) → NoneOf (tests_of r k) → SoundHead (accepted d (f []) r k).left.head
   sound_accepted (Open w) ns = record { under_top = so.under_top; in_book = let q = eqb-false (r.head.ended + r.head.active) r.head.sizes.entries (free r w ns).entries_left in omega (arith, so.in_book) }
-  sound_accepted (Read w c) ns = cond_both (has_written r w.0 c.0) _ _ (λ (o : Outcome V). SoundHead o.left.head) (λ e. so)
-      (λ e. cond_both (ltb (high_of r w.0) (raised_low r w.0 c.0 + 2)) _ _ (λ (o : Outcome V). SoundHead o.left.head)
-      (λ l. sound_up w.0 (λ p. Err (Stale p)) (working r (Read w c) refl ns))
-      (λ l. record { under_top = so.under_top; in_book = so.in_book }))
+  sound_accepted (Read w c) ns = read_by (λ (o : Outcome V). SoundHead o.left.head) d (f []) r w.0 c.0 (λ e. so)
+      (λ e l. sound_up w.0 (λ p. Err (Stale p)) (working r (Read w c) refl ns))
+      (λ e l. record { under_top = so.under_top; in_book = so.in_book })
   sound_accepted (Write w c v) ns = record { under_top = so.under_top; in_book = so.in_book }
-  sound_accepted (Commit w) ns = cond_both (ltb (high_of r w.0) (commit_low r w.0 + 2)) _ _ (λ (o : Outcome V). SoundHead o.left.head) (λ l. sound_up w.0 (λ p. Err (NoPlace p)) wk)
+  sound_accepted (Commit w) ns = commit_by (λ (o : Outcome V). SoundHead o.left.head) d (f []) r w.0 (λ l. sound_up w.0 (λ p. Err (NoPlace p)) wk)
       (λ l. let b = sound_end w.0 (f [] (commit_low r w.0) (high_of r w.0)) wk (ke.between [] (commit_low r w.0) (high_of r w.0) (ltb-false (high_of r w.0) (commit_low r w.0 + 2) l)).1 in record { under_top = b.0; in_book = b.1 })
     where
       wk : Working r w.0
@@ -100,10 +101,6 @@ split : (e : Entry) (xs : List Entry) → Split e xs
 split e [] = record { front = []; back = []; was = refl; is = refl; in_place = λ c. (tt, tt) }
 split e (x ∷ xs) = go (leb x.place.0 e.place.0) refl (split e xs)
   where
-    above : (ys : List Entry) → e.place.0 ≤ x.place.0 → All (NotAbove x) ys → All (NotAbove e) ys
-    above [] l a = tt
-    above (y ∷ ys) l a = (omega (arith, a.0), above ys l a.1)
-
     joined : (b : Bool) → leb x.place.0 e.place.0 ≡ b → put_in e (x ∷ xs) ≡ cond b (x ∷ put_in e xs) (e ∷ x ∷ xs)
     joined b q = ap (λ (t : Bool). cond t (x ∷ put_in e xs) (e ∷ x ∷ xs)) q
 
@@ -115,15 +112,13 @@ split e (x ∷ xs) = go (leb x.place.0 e.place.0) refl (split e xs)
       is = joined true q ∙ ap (λ (ys : List Entry). x ∷ ys) s.is;
       in_place = λ c. let p = s.in_place c.1 in ((leb-true x.place.0 e.place.0 q, p.0), p.1);
     }
-    go false q s = let l = leb-false x.place.0 e.place.0 q in record { front = []; back = x ∷ xs; was = refl; is = joined false q; in_place = λ c. (tt, (omega arith, above xs (omega arith) c.0)) }
+    go false q s = let l = leb-false x.place.0 e.place.0 q in record { front = []; back = x ∷ xs; was = refl; is = joined false q; in_place = λ c. (tt, (omega arith, all_map (NotAbove x) (NotAbove e) xs (λ y a. omega (arith, a, l)) c.0)) }
 
 length_put_in : (e : Entry) (xs : List Entry) → length (put_in e xs) ≡ length xs + 1
 length_put_in e [] = refl
-length_put_in e (x ∷ xs) = go (leb x.place.0 e.place.0) (length_put_in e xs)
-  where
-    go : (b : Bool) → length (put_in e xs) ≡ length xs + 1 → length (cond b (x ∷ put_in e xs) (e ∷ x ∷ xs)) ≡ suc (length xs) + 1
-    go true ih = omega arith
-    go false ih = omega arith
+length_put_in e (x ∷ xs) =
+    let ih = length_put_in e xs in
+    cond_both (leb x.place.0 e.place.0) _ _ (λ (ys : List Entry). length ys ≡ suc (length xs) + 1) (λ _. omega (arith, ih)) (λ _. omega arith)
 
 inserted : (k : ℕ) (e : Entry) (book : List Entry) → k < length book → (bk : List Entry) × Inserted k e book bk
 inserted k e book l = (
@@ -154,11 +149,9 @@ module _ {V : Type 0} (d : V) (f : Meaning) (r : Register V) (so : SoundHead r.h
 
   can : (k : Call V) → NoneOf (tests_of r k) → Can (accepted d (f []) r k)
   can (Open w) ns = (r.tables.book, refl)
-  can (Read w c) ns = cond_both (has_written r w.0 c.0) _ _ Can (λ e. (r.tables.book, refl))
-      (λ e. cond_both (ltb (high_of r w.0) (raised_low r w.0 c.0 + 2)) _ _ Can
-      (λ l. can_end w.0 _ (working r (Read w c) refl ns) (sized r (Read w c) ns).fits.book) (λ l. (r.tables.book, refl)))
+  can (Read w c) ns = read_by Can d (f []) r w.0 c.0 (λ e. (r.tables.book, refl)) (λ e l. can_end w.0 _ (working r (Read w c) refl ns) (sized r (Read w c) ns).fits.book) (λ e l. (r.tables.book, refl))
   can (Write w c v) ns = (r.tables.book, refl)
-  can (Commit w) ns = cond_both (ltb (high_of r w.0) (commit_low r w.0 + 2)) _ _ Can (λ l. can_end w.0 _ wk (sized r (Commit w) ns).fits.book) (λ l. can_end w.0 _ wk (sized r (Commit w) ns).fits.book)
+  can (Commit w) ns = commit_by Can d (f []) r w.0 (λ l. can_end w.0 _ wk (sized r (Commit w) ns).fits.book) (λ l. can_end w.0 _ wk (sized r (Commit w) ns).fits.book)
     where
       wk : Working r w.0
       wk = working r (Commit w) refl ns
@@ -178,23 +171,11 @@ every_call_can_be_performed V = record {
 
 some_at : (t : ℕ → Bool) (n c : ℕ) → 1 ≤ c → c ≤ n → t c ≡ true → some t n ≡ true
 some_at t zero c a b e = absurd (omega arith)
-some_at t (suc n) c a b e = go (eqb c (suc n)) refl (some_at t n c a)
-  where
-    go : (q : Bool) → eqb c (suc n) ≡ q → (c ≤ n → t c ≡ true → some t n ≡ true) → (t (suc n) || some t n) ≡ true
-    go true q ih = or_left (t (suc n)) (some t n) (rw (← eqb-true c (suc n) q) e)
-    go false q ih = or_right (t (suc n)) (some t n) (ih (omega (arith, eqb-false c (suc n) q)) e)
+some_at t (suc n) c a b e = ⊎_elim (λ q. or_left (t (suc n)) (some t n) (rw (← q) e)) (λ q. or_right (t (suc n)) (some t n) (some_at t n c a (omega (arith, q)) e)) (cases_eq c (suc n))
 
 some_of : (t : ℕ → Bool) (n : ℕ) → some t n ≡ true → (c : ℕ) × (1 ≤ c) × (c ≤ n) × (t c ≡ true)
 some_of t zero e = absurd (both_ways false refl e)
-some_of t (suc n) e = go (or_cases (t (suc n)) (some t n) e) (some_of t n)
-  where
-    go : (t (suc n) ≡ true) ⊎ (some t n ≡ true) → (some t n ≡ true → (c : ℕ) × (1 ≤ c) × (c ≤ n) × (t c ≡ true)) → (c : ℕ) × (1 ≤ c) × (c ≤ suc n) × (t c ≡ true)
-    go (inl q) ih = (suc n, omega arith, omega arith, q)
-    go (inr q) ih = let k = ih q in (k.0, k.1, omega (arith, k.2), k.3)
-
-at_most : (b : Bool) (x y : ℕ) → (b ≡ true → x ≤ y) → cond b x 0 ≤ y
-at_most true x y f = f refl
-at_most false x y f = omega arith
+some_of t (suc n) e = ⊎_elim (λ q. (suc n, omega arith, omega arith, q)) (λ q. let k = some_of t n q in (k.0, k.1, omega (arith, k.2), k.3)) (or_cases (t (suc n)) (some t n) e)
 
 module _ {V : Type 0} (r : Register V) (w : ℕ) where
   abbrev cell : ℕ → ℕ
@@ -216,8 +197,8 @@ module _ {V : Type 0} (r : Register V) (w : ℕ) where
   bounded : (x : ℕ) → AtLeastEach r w x → commit_low r w ≤ x
   bounded x k =
       let l = k.own_low in
-      let p = most_least cell r.head.sizes.cells x (λ c a b. at_most (has_written r w c) (max (at r.tables.written c 0) (at r.tables.read c 0)) x (λ e. omega (arith, k.written_cells c a b e))) in
-      let q = most_least crew r.head.sizes.crews x (λ u a b. at_most (other_reader r w u) (low_of r u + 1) x (λ e. of u a b e)) in omega arith
+      let p = most_least cell r.head.sizes.cells x (λ c a b. cond_both (has_written r w c) _ _ (λ y. y ≤ x) (λ e. omega (arith, k.written_cells c a b e)) (λ _. omega arith)) in
+      let q = most_least crew r.head.sizes.crews x (λ u a b. cond_both (other_reader r w u) _ _ (λ y. y ≤ x) (of u a b) (λ _. omega arith)) in omega arith
     where
       of : (u : ℕ) → 1 ≤ u → u ≤ r.head.sizes.crews → other_reader r w u ≡ true → low_of r u + 1 ≤ x
       of u a b e =

@@ -8,14 +8,13 @@ use Rattle.terms.specs.declared.refusals.Refusal.{Refusal}
 use Rattle.terms.specs.declared.refusals.Refusal.TheVariants.{BadLine, BadSize, BookFull, Damaged, JobOpen, NoCell, NoCrew, NoJob, NoPlace, NotFilled, PaperFull, PlacesSpent, Stale, WrongTable}
 use Rattle.choosers.specs.Meaning.{KeepsLaw, Meaning}
 use Rattle.history.specs.Events.{History}
-use Rattle.history.proofs.Viewing.{run_facts}
 use Rattle.rules.specs.Contents.{Fits}
-use Rattle.rules.specs.JobCalls.{Outcome, accepted, call_tests, commit_low, crew_of, damaged, is_opening, outcome, raised_low, refused, wrong_cell}
+use Rattle.rules.specs.JobCalls.{Outcome, accepted, call_tests, crew_of, damaged, is_opening, outcome, refused, wrong_cell}
 use Rattle.rules.specs.Limits.{top}
 use Rattle.rules.specs.Making.{JustStarted}
 use Rattle.rules.specs.Performing.{All}
 use Rattle.rules.specs.Refusing.{first_refusal, if_refused}
-use Rattle.rules.specs.Registers.{Register, has_job, has_written, high_of, own_of, record_of}
+use Rattle.rules.specs.Registers.{Register, has_job, record_of}
 use Rattle.rules.specs.Runs.{Run, Step}
 use Rattle.rules.specs.Tables.{outside}
 use Rattle.rules.specs.declared.calls.Answer.{Answer}
@@ -23,14 +22,14 @@ use Rattle.rules.specs.declared.calls.Call.{Call}
 use Rattle.rules.specs.declared.calls.Call.TheVariants.{Abandon, Commit, Open, Read, Write}
 use Rattle.rules.proofs.Changing.{inside}
 use Rattle.guarantee.specs.Histories.{history_of}
-use Rattle.guarantee.specs.Opacity.{Names, cell_values, day_book}
+use Rattle.guarantee.specs.Opacity.{Names, day_book}
 use Rattle.guarantee.specs.RuleFacts.{SoundHead}
 use Rattle.guarantee.specs.Soundness.{EveryRunIsSound}
 use Rattle.guarantee.proofs.Counting.{busy_at}
-use Rattle.guarantee.proofs.Invariant.{Inv}
+use Rattle.guarantee.proofs.Invariant.{Inv, facts_of}
 use Rattle.guarantee.proofs.Opacity.{b, invariant, tracking}
 use Rattle.guarantee.proofs.Orders.{all_map}
-use Rattle.guarantee.proofs.Passing.{not_damaged, outcome_by}
+use Rattle.guarantee.proofs.Passing.{commit_by, not_damaged, outcome_by, read_by}
 use Rattle.guarantee.proofs.RuleFacts.{every_call_can_be_performed}
 use Rattle.guarantee.proofs.Started.{fresh}
 use Rattle.guarantee.proofs.Tied.{tied_open}
@@ -60,10 +59,9 @@ SoundAnswer (Err e) = Unharmed e
 module _ {V : Type 0} (r : Register V) (fits : Fits r.head.sizes r.tables) (undamaged : (w : ℕ) → 1 ≤ w → w ≤ r.head.sizes.crews → has_job r w ≡ true → damaged r w ≡ false) (d : V) (pick : ℕ → ℕ → ℕ) where
   accepted_sound : (k : Call V) → SoundAnswer (accepted d pick r k).answer
   accepted_sound (Open w) = tt
-  accepted_sound (Read w c) = cond_both (has_written r w.0 c.0) _ _ (λ (o : Outcome V). SoundAnswer o.answer) (λ e. tt)
-      (λ e. cond_both (ltb (high_of r w.0) (raised_low r w.0 c.0 + 2)) _ _ (λ (o : Outcome V). SoundAnswer o.answer) (λ l. tt) (λ l. tt))
+  accepted_sound (Read w c) = read_by (λ (o : Outcome V). SoundAnswer o.answer) d pick r w.0 c.0 (λ e. tt) (λ e l. tt) (λ e l. tt)
   accepted_sound (Write w c v) = tt
-  accepted_sound (Commit w) = cond_both (ltb (high_of r w.0) (commit_low r w.0 + 2)) _ _ (λ (o : Outcome V). SoundAnswer o.answer) (λ l. tt) (λ l. tt)
+  accepted_sound (Commit w) = commit_by (λ (o : Outcome V). SoundAnswer o.answer) d pick r w.0 (λ l. tt) (λ l. tt)
   accepted_sound (Abandon w) = tt
 
   module _ (k : Call V) where
@@ -94,10 +92,9 @@ module _ {V : Type 0} (r : Register V) (fits : Fits r.head.sizes r.tables) (unda
 
 accepted_sizes : {V : Type 0} (d : V) (pick : ℕ → ℕ → ℕ) (r : Register V) (k : Call V) → (accepted d pick r k).left.head.sizes ≡ r.head.sizes
 accepted_sizes d pick r (Open w) = refl
-accepted_sizes {V} d pick r (Read w c) = cond_both (has_written r w.0 c.0) _ _ (λ (o : Outcome V). o.left.head.sizes ≡ r.head.sizes) (λ e. refl)
-    (λ e. cond_both (ltb (high_of r w.0) (raised_low r w.0 c.0 + 2)) _ _ (λ (o : Outcome V). o.left.head.sizes ≡ r.head.sizes) (λ l. refl) (λ l. refl))
+accepted_sizes {V} d pick r (Read w c) = read_by (λ (o : Outcome V). o.left.head.sizes ≡ r.head.sizes) d pick r w.0 c.0 (λ e. refl) (λ e l. refl) (λ e l. refl)
 accepted_sizes d pick r (Write w c v) = refl
-accepted_sizes {V} d pick r (Commit w) = cond_both (ltb (high_of r w.0) (commit_low r w.0 + 2)) _ _ (λ (o : Outcome V). o.left.head.sizes ≡ r.head.sizes) (λ l. refl) (λ l. refl)
+accepted_sizes {V} d pick r (Commit w) = commit_by (λ (o : Outcome V). o.left.head.sizes ≡ r.head.sizes) d pick r w.0 (λ l. refl) (λ l. refl)
 accepted_sizes d pick r (Abandon w) = refl
 
 outcome_sizes : {V : Type 0} (d : V) (pick : ℕ → ℕ → ℕ) (r : Register V) (k : Call V) → (outcome d pick r k).left.head.sizes ≡ r.head.sizes
@@ -125,7 +122,7 @@ module _ {V : Type 0} (d : V) (s : Register V) (f₀ : Meaning) (j : JustStarted
 module _ {V : Type 0} (d : V) (s : Register V) (run : History V) (r : Register V) (f : Meaning) (inv : Inv d s run r f) where
   undamaged : (w : ℕ) → 1 ≤ w → w ≤ r.head.sizes.crews → has_job r w ≡ true → damaged r w ≡ false
   undamaged w a b h =
-      let v = (run_facts top r.head.sizes.cells (cell_values d s) (own_of d s) inv.went).view_facts in
+      let v = (facts_of inv).view_facts in
       let o = tied_open (has_job r w) (record_of r w) (inv.view.job w) (inv.view.low w) (inv.view.high w) h (inv.tie.job_is w a b) in
       let room = v.room w (rw (← v.job_is w) o.1) in
       not_damaged r w (record {
@@ -147,7 +144,7 @@ every_run_is_sound V d s f₀ j ke log r f rn =
       same_sizes = h.0;
       tables_fit = fits;
       head_sound = h.1;
-      jobs_counted = sym g.tie.opened_is ∙ (run_facts top r.head.sizes.cells (cell_values d s) (own_of d s) g.went).view_facts.opened_is;
+      jobs_counted = sym g.tie.opened_is ∙ (facts_of g).view_facts.opened_is;
       ended_counted = length-take-le r.head.ended r.tables.book (omega (arith, h.1.in_book, fits.book));
       highest_place = under_highest d s (history_of log) r f g (day_book r) g.booked.entries;
       no_wrong_table = λ e pick k table q. subst SoundAnswer q (safe e pick k);

@@ -2,7 +2,7 @@
 use Rattle.std.proofs.Common.{◌≡◌, ℕ, zero, suc, ◌+◌, ◌-◌, ◌*◌, ◌<◌, ◌≤◌, min, max, Bool, true, false, cond, not, ◌&&◌, ◌||◌, eqb, ltb, List, length, get_or, set, Result, sym, refl, ap, ◌∙◌, subst, ap₂, subst₂, arith}
 use mathlib.Core.Path.{fun_ext}
 use Rattle.std.proofs.lemmas.List.{length-set}
-use Rattle.std.proofs.lemmas.Bool.{eqb-true, eqb-false, ne_eqb, both_ways, ltb-false, and_from}
+use Rattle.std.proofs.lemmas.Bool.{eqb-true, eqb-false, ne_eqb, both_ways, ltb-false, and_from, cond_both}
 use Rattle.terms.specs.declared.numbers.Place.{Place}
 use Rattle.terms.specs.declared.records.JobRecord.{JobRecord}
 use Rattle.terms.specs.declared.records.Standing.TheVariants.{Open as IsOpen}
@@ -47,54 +47,32 @@ some_conflict t s w u zero h = refl
 some_conflict t s w u (suc n) h = ap₂ ◌||◌ (h (suc n) (omega arith) (omega arith)) (some_conflict t s w u n (λ c a b. h c a (omega arith)))
 
 pub tied_open : (b : Bool) (j : JobRecord) (x l h : ℕ) → b ≡ true → Tied b j x l h → (x ≡ j.job.0) × (1 ≤ x) × (l ≡ j.low.0) × (h ≡ j.high.0)
-tied_open true j x l h e t = t
-tied_open false j x l h e t = absurd (both_ways false refl e)
+tied_open b j x l h e t = grind (arith, e, t)
 
 pub tied_closed : (b : Bool) (j : JobRecord) (x l h : ℕ) → b ≡ false → Tied b j x l h → x ≡ 0
-tied_closed true j x l h e t = absurd (both_ways true e refl)
-tied_closed false j x l h e t = t
+tied_closed b j x l h e t = grind (arith, e, t)
 
 pub tied_by_job : (b : Bool) (j : JobRecord) (x l h : ℕ) → Tied b j x l h → 1 ≤ x → b ≡ true
-tied_by_job true j x l h t a = refl
-tied_by_job false j x l h t a = absurd (omega arith)
+tied_by_job b j x l h t a = grind (arith, t, a)
 
 tied_from : (b : Bool) (j : JobRecord) (x l h : ℕ) → b ≡ true → (x ≡ j.job.0) × (1 ≤ x) × (l ≡ j.low.0) × (h ≡ j.high.0) → Tied b j x l h
-tied_from true j x l h e t = t
-tied_from false j x l h e t = absurd (both_ways false refl e)
+tied_from b j x l h e t = grind (arith, e, t)
 
 -- one record of the table changed
 tied_put : (t : Bool) (k j : JobRecord) (x x' l l' h h' : ℕ) → Tied (is_open k.standing) k x' l' h' → (t ≡ false → Tied (is_open j.standing) j x l h) →
     Tied (is_open (cond t k j).standing) (cond t k j) (cond t x' x) (cond t l' l) (cond t h' h)
-tied_put true k j x x' l l' h h' p q = p
-tied_put false k j x x' l l' h h' p q = q refl
+tied_put t k j x x' l l' h h' p q = grind (arith, p, q)
 
 -- a high lowered
 tied_lower : (t : Bool) (j : JobRecord) (x l h p : ℕ) → Tied (is_open j.standing) j x l h →
     Tied (is_open (cond (is_open j.standing && t) (lowered p j) j).standing) (cond (is_open j.standing && t) (lowered p j) j) x l (cond t (min h p) h)
-tied_lower t j x l h p q = go (is_open j.standing) t refl q
-  where
-    go : (b t : Bool) → is_open j.standing ≡ b → Tied b j x l h → Tied (is_open (cond (b && t) (lowered p j) j).standing) (cond (b && t) (lowered p j) j) x l (cond t (min h p) h)
-    go true true e (q, a, f, g) = tied_from (is_open j.standing) (lowered p j) x l (min h p) e (q, a, f, omega arith)
-    go true false e q = tied_from (is_open j.standing) j x l h e q
-    go false t e q = rw e q
+tied_lower t j x l h p q = grind (arith, q)
 
 put_same : {A : Type 0} (f : ℕ → A) (k : ℕ) (v : A) → v ≡ f k → (j : ℕ) → updated f k v j ≡ f j
-put_same f k v e j = go (eqb k j) refl
-  where
-    go : (b : Bool) → eqb k j ≡ b → cond b v (f j) ≡ f j
-    go true q = e ∙ ap f (eqb-true k j q)
-    go false q = refl
+put_same f k v e j = cond_both (eqb k j) _ _ (λ x. x ≡ f j) (λ q. e ∙ ap f (eqb-true k j q)) (λ _. refl)
 
 updated_below : (f : ℕ → ℕ) (k v b : ℕ) → v ≤ b → ((u : ℕ) → f u ≤ b) → (u : ℕ) → updated f k v u ≤ b
-updated_below f k v b l h u = go (eqb k u)
-  where
-    go : (t : Bool) → cond t v (f u) ≤ b
-    go true = l
-    go false = h u
-
-lowered_below : (t : Bool) (h p b : ℕ) → h ≤ b → cond t (min h p) h ≤ b
-lowered_below true h p b l = omega arith
-lowered_below false h p b l = l
+updated_below f k v b l h u = cond_both (eqb k u) _ _ (λ x. x ≤ b) (λ _. l) (λ _. h u)
 
 cond_same : {A : Type 0} (b c : Bool) (x x' y y' : A) → b ≡ c → x ≡ x' → y ≡ y' → cond b x y ≡ cond c x' y'
 cond_same b c x x' y y' p q e = rw (p, q, e)
@@ -115,11 +93,8 @@ module _ {V : Type 0} (d : V) (r : Register V) (s : RegisterView V) (tie : Tie d
       (tied_put (eqb w u) k (at xs u closed_record) (s.job u) x' (s.low u) l' (high u) h' p (λ e. q u (λ f. eqb-false w u e (sym f)) a b))
 
   put_crews : (x : ℕ) → (u : ℕ) → 1 ≤ updated s.job w x u → (1 ≤ u) × (u ≤ r.head.sizes.crews)
-  put_crews x u = go (eqb w u) refl
-    where
-      go : (b : Bool) → eqb w u ≡ b → 1 ≤ cond b x (s.job u) → (1 ≤ u) × (u ≤ r.head.sizes.crews)
-      go true e a = let q = eqb-true w u e in (omega (arith, z.from_one), omega (arith, z.to_crews))
-      go false e a = tie.crews u a
+  put_crews x u = cond_both (eqb w u) x (s.job u) (λ k. 1 ≤ k → (1 ≤ u) × (u ≤ r.head.sizes.crews))
+      (λ e _. let q = eqb-true w u e in (omega (arith, z.from_one, q), omega (arith, z.to_crews, q))) (λ _. tie.crews u)
 
   ---- open
 
@@ -346,7 +321,7 @@ module _ {V : Type 0} (d : V) (r : Register V) (s : RegisterView V) (tie : Tie d
     highest_is = omega (arith, tie.highest_is);
     opened_is = omega (arith, tie.opened_is, k.counted);
     active_is = ended_active (of_open k.has).1;
-    under_top = updated_below H w 0 top (omega arith) (λ u. lowered_below (conflicts s w u r.head.sizes.cells) (s.high u) p top (tie.under_top u));
+    under_top = updated_below H w 0 top (omega arith) (λ u. cond_both (conflicts s w u r.head.sizes.cells) _ _ (λ h. h ≤ top) (λ _. omega (arith, tie.under_top u)) (λ _. tie.under_top u));
     fits = record {
       values = length_each _ 1 r.tables.values ∙ z.fits.values;
       written = length_each _ 1 r.tables.written ∙ z.fits.written;

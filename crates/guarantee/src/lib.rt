@@ -10,85 +10,61 @@ ghost use Rattle.guarantee.specs.Permissiveness.{RegisterIsPermissive, AcceptedC
 ghost use Rattle.guarantee.specs.Examples.{ExamplesStand};
 
 // What stands in the rules for a value that a table is too short for is never seen.
-pub fn no_outcome_depends_on_the_default<V>() -> u8
+pub fn no_outcome_depends_on_the_default<V>()
     ensures { NoOutcomeDependsOnDefault V }
-{
-    0
-}
+{}
 
 // Whatever the tables hold, each call can be performed, and leaves a head on which the next one can be.
-pub fn every_call_can_be_performed<V>() -> u8
+pub fn every_call_can_be_performed<V>()
     ensures { EveryCallCanBePerformed V }
-{
-    0
-}
+{}
 
 // The low bound of a commit is the largest of the numbers that it must not be under.
-pub fn commit_bound_is_the_largest<V>() -> u8
+pub fn commit_bound_is_the_largest<V>()
     ensures { CommitBoundIsLargest V }
-{
-    0
-}
+{}
 
 // What a run's history leaves out altered nothing, and what it has was done.
-pub fn histories_are_true<V>() -> u8
+pub fn histories_are_true<V>()
     ensures { HistoriesAreTrue V }
-{
-    0
-}
+{}
 
 // Whatever calls are made on a register just started, its jobs could have been done one after the other, in the day book's order.
-pub fn every_run_is_opaque<V>() -> u8
+pub fn every_run_is_opaque<V>()
     ensures { EveryRunIsOpaque V }
-{
-    0
-}
+{}
 
 // And so at every moment until then.
-pub fn every_moment_is_opaque<V>() -> u8
+pub fn every_moment_is_opaque<V>()
     ensures { EveryMomentIsOpaque V }
-{
-    0
-}
+{}
 
 // No call ever damages a register that was just started: its tables fit, its head counts its jobs, and no call is answered that a record is damaged.
-pub fn every_run_is_sound<V>() -> u8
+pub fn every_run_is_sound<V>()
     ensures { EveryRunIsSound V }
-{
-    0
-}
+{}
 
 // A well made list of calls has a serialization order of its jobs if and only if some script has the register accept every call of it.
-pub fn register_is_permissive<V>() -> u8
+pub fn register_is_permissive<V>()
     ensures { RegisterIsPermissive V }
-{
-    0
-}
+{}
 
 // Whatever the chooser, a list of calls that were all accepted has a serialization order.
-pub fn accepted_calls_have_an_order<V>() -> u8
+pub fn accepted_calls_have_an_order<V>()
     ensures { AcceptedCallsHaveAnOrder V }
-{
-    0
-}
+{}
 
 // Whatever the list of calls and the chooser, the whole list can be performed on a register just started.
-pub fn every_list_can_be_performed<V>() -> u8
+pub fn every_list_can_be_performed<V>()
     ensures { EveryListCanBePerformed V }
-{
-    0
-}
+{}
 
 // Of two small lists of calls on a register just started, one is never accepted whole, and the other is with a script.
-pub fn examples_stand() -> u8
+pub fn examples_stand()
     ensures { ExamplesStand }
-{
-    0
-}
+{}
 
 // The whole promise at once, as the call that makes a list of calls carries it.
-pub fn promise_is_kept<V>() -> u8
+pub fn promise_is_kept<V>()
     ensures { PromiseIsKept V }
-{
-    0
-}
+{}

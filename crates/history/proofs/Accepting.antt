@@ -1,19 +1,21 @@
 -- Where places for the jobs rise along precedence, the register accepts every call at them: the low bound of each open job stays below its place, and the high one above.
-use Rattle.std.proofs.Common.{◌≡◌, ℕ, zero, suc, ◌+◌, ◌<◌, ◌≤◌, min, max, Bool, true, false, cond, ◌&&◌, eqb, leb, ◌⊎◌, [], ◌∷◌, None, sym, refl, ap, ◌∙◌, subst, ap₂, inl, inr, arith}
-use Rattle.std.proofs.lemmas.Bool.{eqb-true, eqb-false, both_ways, leb-true, leb-false, and_parts, or_cases}
+use Rattle.std.proofs.Common.{◌≡◌, ℕ, zero, suc, ◌+◌, ◌<◌, ◌≤◌, max, Bool, true, false, cond, ◌&&◌, eqb, ◌⊎◌, [], ◌∷◌, None, sym, refl, ap, ◌∙◌, subst, ap₂, inl, inr, arith}
+use Rattle.std.proofs.lemmas.Bool.{eqb-true, eqb-false, both_ways, and_parts, or_cases, cases_lt}
+use Rattle.std.proofs.Math.Logic.{⊎_elim, ⊎_map}
+use Rattle.std.proofs.lemmas.Option.{none-some}
 use Rattle.history.specs.Events.{Operation, Event, Events, History, is_opening, openings, open_job, by_jobs}
 use Rattle.history.specs.Events.Operation.{opens, reads, writes, commits, abandons}
 use Rattle.history.specs.Events.Event.{by}
 use Rattle.history.specs.Projections.{projection, end_place, WellFormed}
-use Rattle.history.specs.Precedence.{Occurs, Wrote, ReadGlobally, CommittedCell, Ended, Precedes}
+use Rattle.history.specs.Precedence.{Wrote, ReadGlobally, CommittedCell, Ended, Precedes}
 use Rattle.history.specs.Precedence.Extends.{here, later}
 use Rattle.history.specs.Precedence.Precedes.{real_time, committed_read, read_committed, committed_committed}
-use Rattle.history.specs.WellMade.{WellMade, Calls, InRange}
+use Rattle.history.specs.WellMade.{WellMade, Calls, InRange, asked}
 use Rattle.history.specs.Views.{RegisterView, fresh_view, conflicts, Accepts, updated, view_after}
 use Rattle.history.specs.Views.ViewRun.{starts, goes_on}
-use Rattle.history.specs.Acceptance.{AcceptedAt, positions}
-use Rattle.history.proofs.Moments.{none_some, precedes_later, read_later, committed_later, unopened_projection}
-use Rattle.history.proofs.Tracking.{ended_place, active_unplaced}
+use Rattle.history.specs.Acceptance.{AcceptedAt, positions, places_of}
+use Rattle.history.proofs.Moments.{precedes_later, read_later, committed_later, active_unplaced, unopened_projection}
+use Rattle.history.proofs.Tracking.{ended_place}
 use Rattle.history.proofs.Crews.{openings_by_job, openings_tail, one_crew, open_job_active, well_formed}
 use Rattle.history.proofs.Viewing.{ViewFacts, flag_when_written, written_when_flag, RunFacts, run_facts}
 use Rattle.history.proofs.Alike.{Alike, alike_sym, precedes_alike, openings_alike, job_alike, by_jobs_alike, calls_alike}
@@ -36,46 +38,33 @@ rising_alike top at a f = record { rises = λ x y n b. f.rises x y n (precedes_a
 
 conflicts_to : {V : Type 0} (s : RegisterView V) (w u n : ℕ) → conflicts s w u n ≡ true → (c : ℕ) × (s.has_read u c ≡ true) × (s.has_written w c ≡ true)
 conflicts_to s w u zero e = absurd (both_ways false refl e)
-conflicts_to s w u (suc n) e = go (or_cases (s.has_read u (suc n) && s.has_written w (suc n)) (conflicts s w u n) e) (conflicts_to s w u n)
-  where
-    go : ((s.has_read u (suc n) && s.has_written w (suc n)) ≡ true) ⊎ (conflicts s w u n ≡ true) →
-        (conflicts s w u n ≡ true → (c : ℕ) × (s.has_read u c ≡ true) × (s.has_written w c ≡ true)) → (c : ℕ) × (s.has_read u c ≡ true) × (s.has_written w c ≡ true)
-    go (inl q) ih = let k = and_parts (s.has_read u (suc n)) (s.has_written w (suc n)) q in (suc n, k.0, k.1)
-    go (inr q) ih = ih q
+conflicts_to s w u (suc n) e = ⊎_elim (λ q. let k = and_parts (s.has_read u (suc n)) (s.has_written w (suc n)) q in (suc n, k.0, k.1)) (conflicts_to s w u n)
+    (or_cases (s.has_read u (suc n) && s.has_written w (suc n)) (conflicts s w u n) e)
 
 module _ {V : Type 0} where
   ended_later : (a : Event V V ℕ) {h : History V} {x : ℕ} → Ended h x → Ended (a ∷ h) x
-  ended_later a {h = h} {x = x} e = go e.occurs
-    where
-      go : Occurs h x (commits e.place) e.before ⊎ Occurs h x (abandons e.place) e.before → Ended (a ∷ h) x
-      go (inl s) = record { place = e.place; before = e.before; occurs = inl (later s) }
-      go (inr s) = record { place = e.place; before = e.before; occurs = inr (later s) }
+  ended_later a e = record { place = e.place; before = e.before; occurs = ⊎_map later later e.occurs }
 
   committed_ended : {h : History V} {x c : ℕ} → CommittedCell h x c → Ended h x
   committed_ended k = record { place = k.place; before = k.before; occurs = inl k.occurs }
 
   -- who has ended is not who is open, nor who has yet to open
   ended_other : (h : History V) (x y : ℕ) → end_place (projection h x) ≡ None → Ended h y → y ≡ x → ⊥
-  ended_other h x y o e q = let k = ended_place h y e in none_some k.0 (sym o ∙ (sym (ap (λ z. end_place (projection h z)) q) ∙ k.1))
+  ended_other h x y o e q = let k = ended_place h y e in none-some k.0 (sym o ∙ (sym (ap (λ z. end_place (projection h z)) q) ∙ k.1))
 
 -- a number that is 0, or the place of one of those jobs
 abbrev Mark : (ℕ → ℕ) → (ℕ → Type 0) → ℕ → Type 0
 Mark at Q k = (k ≡ 0) ⊎ ((y : ℕ) × Q y × (k ≡ at y))
 
 mark_map : (at : ℕ → ℕ) (Q S : ℕ → Type 0) (k : ℕ) → ((y : ℕ) → Q y → S y) → Mark at Q k → Mark at S k
-mark_map at Q S k f (inl e) = inl e
-mark_map at Q S k f (inr m) = inr (m.0, f m.0 m.1, m.2)
+mark_map at Q S k f = ⊎_map (λ e. e) (λ m. (m.0, f m.0 m.1, m.2))
 
 mark_below : (at : ℕ → ℕ) (Q : ℕ → Type 0) (k p : ℕ) → 1 ≤ p → ((y : ℕ) → Q y → at y < p) → Mark at Q k → k < p
 mark_below at Q k p l f (inl e) = omega arith
 mark_below at Q k p l f (inr m) = omega (arith, f m.0 m.1, m.2)
 
 mark_max : (at : ℕ → ℕ) (Q : ℕ → Type 0) (k x : ℕ) → Q x → Mark at Q k → Mark at Q (max k (at x))
-mark_max at Q k x q m = go (leb k (at x)) refl
-  where
-    go : (b : Bool) → leb k (at x) ≡ b → Mark at Q (max k (at x))
-    go true e = inr (x, q, omega (arith, leb-true k (at x) e))
-    go false e = let f : max k (at x) ≡ k = omega (arith, leb-false k (at x) e) in subst (λ z. Mark at Q z) (sym f) m
+mark_max at Q k x q m = ⊎_elim (λ l. let f : max k (at x) ≡ k = omega arith in subst (Mark at Q) (sym f) m) (λ l. inr (x, q, omega arith)) (cases_lt (at x) k)
 
 -- each table entry is 0 or the place of a job that did what the table is for, and each open job has its place between its bounds
 record PlacesFit {V : Type 0} (at : ℕ → ℕ) (run : History V) (s : RegisterView V) : Type 0 where
@@ -131,22 +120,14 @@ module _ {V : Type 0} (top n : ℕ) (first : ℕ → V) (at : ℕ → ℕ) (run 
 
     open_fits : PlacesFit at (by w opens ∷ run) (view_after top n s w opens)
     open_fits = record {
-      low_is = λ u a. low u (eqb w u) a;
-      high_is = λ u a. high u (eqb w u) a;
+      low_is = λ u a. grind (arith, new_above, fits.low_is, a);
+      high_is = λ u a. grind (arith, new_within, fits.high_is, a);
       written_is = marks_later (by (suc (openings run)) opens);
       read_is = reads_later (by (suc (openings run)) opens);
       highest_is = highest_later (by (suc (openings run)) opens);
       flag_is = λ u c q. flag u c (eqb w u) refl q;
     }
       where
-        low : (u : ℕ) (b : Bool) → 1 ≤ cond b (suc (openings run)) (open_job run u) → cond b s.highest (s.low u) < at (cond b (suc (openings run)) (open_job run u))
-        low u true a = new_above
-        low u false a = fits.low_is u a
-
-        high : (u : ℕ) (b : Bool) → 1 ≤ cond b (suc (openings run)) (open_job run u) → at (cond b (suc (openings run)) (open_job run u)) < cond b top (s.high u)
-        high u true a = omega (arith, new_within.1)
-        high u false a = fits.high_is u a
-
         flag : (u c : ℕ) (b : Bool) → eqb w u ≡ b → s.has_read u c ≡ true →
             (1 ≤ cond b (suc (openings run)) (open_job run u)) × ReadGlobally (by (suc (openings run)) opens ∷ by_jobs run) (cond b (suc (openings run)) (open_job run u)) c
         flag u c true e q = absurd (omega (arith, (fits.flag_is u c q).0, j, ap (open_job run) (eqb-true w u e)))
@@ -165,7 +146,7 @@ module _ {V : Type 0} (top n : ℕ) (first : ℕ → V) (at : ℕ → ℕ) (run 
 
     read_fits : PlacesFit at (by w (reads c v) ∷ run) (view_after top n s w (reads c v))
     read_fits = record {
-      low_is = λ u b. low u (eqb w u) refl b;
+      low_is = λ u b. grind (arith, fits.low_is w a, fits.low_is u, written_below, b, eqb-true w u);
       high_is = fits.high_is;
       written_is = marks_later (by (open_job run w) (reads c v));
       read_is = reads_later (by (open_job run w) (reads c v));
@@ -173,14 +154,6 @@ module _ {V : Type 0} (top n : ℕ) (first : ℕ → V) (at : ℕ → ℕ) (run 
       flag_is = λ u k q. flag u k (eqb w u) refl q;
     }
       where
-        mine : (b : Bool) → s.has_written w c ≡ b → cond b (s.low w) (max (s.low w) (s.written c)) < at (open_job run w)
-        mine true q = fits.low_is w a
-        mine false q = omega (arith, written_below q, fits.low_is w a)
-
-        low : (u : ℕ) (b : Bool) → eqb w u ≡ b → 1 ≤ open_job run u → cond b (cond (s.has_written w c) (s.low w) (max (s.low w) (s.written c))) (s.low u) < at (open_job run u)
-        low u true q b = rw (← eqb-true w u q) (mine (s.has_written w c) refl)
-        low u false q b = fits.low_is u b
-
         inner : (b : Bool) → s.has_written w c ≡ b → cond b (s.has_read w c) true ≡ true → (1 ≤ open_job run w) × ReadGlobally (by (open_job run w) (reads c v) ∷ by_jobs run) (open_job run w) c
         inner true q t = flags_later (by (open_job run w) (reads c v)) w c t
         inner false q t = (a, record { value = v; before = by_jobs run; occurs = here; unwritten = not_flag w c a q })
@@ -213,8 +186,7 @@ module _ {V : Type 0} (top n : ℕ) (first : ℕ → V) (at : ℕ → ℕ) (run 
   ---- what both endings leave
   module _ (w : ℕ) (a : 1 ≤ open_job run w) (event : Event V V ℕ) (en : Ended (event ∷ by_jobs run) (open_job run w)) where
     ended_low : (u : ℕ) (b : Bool) → 1 ≤ cond b 0 (open_job run u) → cond b 0 (s.low u) < at (cond b 0 (open_job run u))
-    ended_low u true l = absurd (omega arith)
-    ended_low u false l = fits.low_is u l
+    ended_low u b l = grind (arith, fits.low_is, l)
 
     ended_reads : (c : ℕ) (b : Bool) → s.has_read w c ≡ b →
         Mark at (λ y. ReadGlobally (event ∷ by_jobs run) y c × Ended (event ∷ by_jobs run) y) (cond b (max (s.read c) (at (open_job run w))) (s.read c))
@@ -257,7 +229,7 @@ module _ {V : Type 0} (top n : ℕ) (first : ℕ → V) (at : ℕ → ℕ) (run 
     commit_fits : PlacesFit at (by w (commits (at (open_job run w))) ∷ run) (view_after top n s w (commits (at (open_job run w))))
     commit_fits = record {
       low_is = λ u l. ended_low w a event en u (eqb w u) l;
-      high_is = λ u l. high u (eqb w u) refl l;
+      high_is = λ u l. let ne : eqb w u ≡ false → u ≡ w → ⊥ = λ e q. eqb-false w u e (sym q) in grind (arith, fits.high_is u, reader_below u, l, ne);
       written_is = λ c. marked c (s.has_written w c) refl;
       read_is = λ c. ended_reads w a event en c (s.has_read w c) refl;
       highest_is = ended_highest w a event en;
@@ -269,14 +241,6 @@ module _ {V : Type 0} (top n : ℕ) (first : ℕ → V) (at : ℕ → ℕ) (run 
 
         en : Ended (event ∷ by_jobs run) (open_job run w)
         en = record { place = at (open_job run w); before = by_jobs run; occurs = inl here }
-
-        inner : (u : ℕ) → (u ≡ w → ⊥) → 1 ≤ open_job run u → (b : Bool) → conflicts s w u n ≡ b → at (open_job run u) < cond b (min (s.high u) (at (open_job run w))) (s.high u)
-        inner u ne l true q = omega (arith, reader_below u ne q, fits.high_is u l)
-        inner u ne l false q = fits.high_is u l
-
-        high : (u : ℕ) (b : Bool) → eqb w u ≡ b → 1 ≤ cond b 0 (open_job run u) → at (cond b 0 (open_job run u)) < cond b 0 (cond (conflicts s w u n) (min (s.high u) (at (open_job run w))) (s.high u))
-        high u true e l = absurd (omega arith)
-        high u false e l = inner u (λ q. eqb-false w u e (sym q)) l (conflicts s w u n) refl
 
         marked : (c : ℕ) (b : Bool) → s.has_written w c ≡ b → Mark at (λ y. CommittedCell (event ∷ by_jobs run) y c) (cond b (at (open_job run w)) (s.written c))
         marked c true q = inr (open_job run w, record { place = at (open_job run w); before = by_jobs run; occurs = here; wrote = wrote c q }, refl)
@@ -290,7 +254,7 @@ module _ {V : Type 0} (top n : ℕ) (first : ℕ → V) (at : ℕ → ℕ) (run 
     abandon_fits : PlacesFit at (by w (abandons (at (open_job run w))) ∷ run) (view_after top n s w (abandons (at (open_job run w))))
     abandon_fits = record {
       low_is = λ u l. ended_low w a event en u (eqb w u) l;
-      high_is = λ u l. high u (eqb w u) l;
+      high_is = λ u l. grind (arith, fits.high_is, l);
       written_is = marks_later event;
       read_is = λ c. ended_reads w a event en c (s.has_read w c) refl;
       highest_is = ended_highest w a event en;
@@ -302,10 +266,6 @@ module _ {V : Type 0} (top n : ℕ) (first : ℕ → V) (at : ℕ → ℕ) (run 
 
         en : Ended (event ∷ by_jobs run) (open_job run w)
         en = record { place = at (open_job run w); before = by_jobs run; occurs = inr here }
-
-        high : (u : ℕ) (b : Bool) → 1 ≤ cond b 0 (open_job run u) → at (cond b 0 (open_job run u)) < cond b 0 (s.high u)
-        high u true l = absurd (omega arith)
-        high u false l = fits.high_is u l
 
 ---- The whole list
 module _ {V : Type 0} (top n m : ℕ) (first : ℕ → V) (own : ℕ → ℕ → V) (at : ℕ → ℕ) where
@@ -322,6 +282,20 @@ module _ {V : Type 0} (top n m : ℕ) (first : ℕ → V) (own : ℕ → ℕ →
   has_open_job : {cs : Calls V} (g : AcceptedSoFar cs) (w : ℕ) → 1 ≤ open_job cs w → 1 ≤ open_job g.accepted.run w
   has_open_job g w a = rw (job_alike (alike g) w) a
 
+  -- and one more call, with the answer that d has
+  accepted_more : {cs : Calls V} (g : AcceptedSoFar cs) (w : ℕ) (d : Operation V V ℕ) → places_of (by w d ∷ g.accepted.run) ≡ positions at (by w (asked d) ∷ cs) →
+      Accepts top n g.accepted.view w d → PlacesFit at (by w d ∷ g.accepted.run) (view_after top n g.accepted.view w d) → AcceptedSoFar (by w (asked d) ∷ cs)
+  accepted_more g w d places ac fit = record {
+    accepted = record {
+      run = by w d ∷ g.accepted.run;
+      view = view_after top n g.accepted.view w d;
+      same_calls = ap (λ z. by w (asked d) ∷ z) g.accepted.same_calls;
+      same_places = places;
+      view_run = goes_on g.accepted.view_run ac;
+    };
+    fits = fit;
+  }
+
   accepted_so_far : (cs : Calls V) → WellMade cs → InRange n m cs → RisingPlaces top at cs → AcceptedSoFar cs
   accepted_so_far [] wm r f = record {
     accepted = record { run = []; view = fresh_view first own; same_calls = refl; same_places = refl; view_run = starts };
@@ -336,79 +310,35 @@ module _ {V : Type 0} (top n m : ℕ) (first : ℕ → V) (own : ℕ → ℕ →
   }
   accepted_so_far (by w opens ∷ cs) wm r f =
       let g = accepted_so_far cs wm.1 r.2 (rising_tail top at w opens cs f) in
+      let s = g.accepted.view in
       let j = job_alike (alike g) w ∙ wm.0 in
       let k = rising_alike top at (more open_open (alike_sym (alike g))) f in
-      record {
-        accepted = record {
-          run = by w opens ∷ g.accepted.run;
-          view = view_after top n g.accepted.view w opens;
-          same_calls = ap (λ z. by w opens ∷ z) g.accepted.same_calls;
-          same_places = g.accepted.same_places;
-          view_run = goes_on g.accepted.view_run (open_accepted top n first at g.accepted.run g.accepted.view (run_facts_of g) g.fits w j k);
-        };
-        fits = open_fits top n first at g.accepted.run g.accepted.view (run_facts_of g) g.fits w j k;
-      }
+      accepted_more g w opens g.accepted.same_places (open_accepted top n first at g.accepted.run s (run_facts_of g) g.fits w j k) (open_fits top n first at g.accepted.run s (run_facts_of g) g.fits w j k)
   accepted_so_far (by w (reads c t) ∷ cs) wm r f =
       let g = accepted_so_far cs wm.1 r.2 (rising_tail top at w (reads c t) cs f) in
       let s = g.accepted.view in
       let v = cond (s.has_written w c) (s.own w c) (s.value c) in
       let a = has_open_job g w wm.0 in
       let k = rising_alike top at (more read_read (alike_sym (alike g))) f in
-      record {
-        accepted = record {
-          run = by w (reads c v) ∷ g.accepted.run;
-          view = view_after top n s w (reads c v);
-          same_calls = ap (λ z. by w (reads c t) ∷ z) g.accepted.same_calls;
-          same_places = g.accepted.same_places;
-          view_run = goes_on g.accepted.view_run (read_accepted top n first at g.accepted.run s (run_facts_of g) g.fits w c v a refl k);
-        };
-        fits = read_fits top n first at g.accepted.run s (run_facts_of g) g.fits w c v a refl k;
-      }
+      accepted_more g w (reads c v) g.accepted.same_places (read_accepted top n first at g.accepted.run s (run_facts_of g) g.fits w c v a refl k) (read_fits top n first at g.accepted.run s (run_facts_of g) g.fits w c v a refl k)
   accepted_so_far (by w (writes c v) ∷ cs) wm r f =
       let g = accepted_so_far cs wm.1 r.2 (rising_tail top at w (writes c v) cs f) in
       let s = g.accepted.view in
       let a = has_open_job g w wm.0 in
-      record {
-        accepted = record {
-          run = by w (writes c v) ∷ g.accepted.run;
-          view = view_after top n s w (writes c v);
-          same_calls = ap (λ z. by w (writes c v) ∷ z) g.accepted.same_calls;
-          same_places = g.accepted.same_places;
-          view_run = goes_on g.accepted.view_run (write_accepted top n first at g.accepted.run s (run_facts_of g) g.fits w c v a r.1.0 r.1.1);
-        };
-        fits = write_fits top n first at g.accepted.run s (run_facts_of g) g.fits w c v a r.1.0 r.1.1;
-      }
+      accepted_more g w (writes c v) g.accepted.same_places (write_accepted top n first at g.accepted.run s (run_facts_of g) g.fits w c v a r.1.0 r.1.1) (write_fits top n first at g.accepted.run s (run_facts_of g) g.fits w c v a r.1.0 r.1.1)
   accepted_so_far (by w (commits t) ∷ cs) wm r f =
       let g = accepted_so_far cs wm.1 r.2 (rising_tail top at w (commits t) cs f) in
       let s = g.accepted.view in
-      let p = at (open_job g.accepted.run w) in
       let a = has_open_job g w wm.0 in
       let k = rising_alike top at (more commit_commit (alike_sym (alike g))) f in
-      record {
-        accepted = record {
-          run = by w (commits p) ∷ g.accepted.run;
-          view = view_after top n s w (commits p);
-          same_calls = ap (λ z. by w (commits t) ∷ z) g.accepted.same_calls;
-          same_places = ap₂ ◌∷◌ (ap at (job_alike (alike g) w)) g.accepted.same_places;
-          view_run = goes_on g.accepted.view_run (commit_accepted top n first at g.accepted.run s (run_facts_of g) g.fits w a k);
-        };
-        fits = commit_fits top n first at g.accepted.run s (run_facts_of g) g.fits w a k;
-      }
+      accepted_more g w (commits (at (open_job g.accepted.run w))) (ap₂ ◌∷◌ (ap at (job_alike (alike g) w)) g.accepted.same_places)
+      (commit_accepted top n first at g.accepted.run s (run_facts_of g) g.fits w a k) (commit_fits top n first at g.accepted.run s (run_facts_of g) g.fits w a k)
   accepted_so_far (by w (abandons t) ∷ cs) wm r f =
       let g = accepted_so_far cs wm.1 r.2 (rising_tail top at w (abandons t) cs f) in
       let s = g.accepted.view in
-      let p = at (open_job g.accepted.run w) in
       let a = has_open_job g w wm.0 in
-      record {
-        accepted = record {
-          run = by w (abandons p) ∷ g.accepted.run;
-          view = view_after top n s w (abandons p);
-          same_calls = ap (λ z. by w (abandons t) ∷ z) g.accepted.same_calls;
-          same_places = ap₂ ◌∷◌ (ap at (job_alike (alike g) w)) g.accepted.same_places;
-          view_run = goes_on g.accepted.view_run (abandon_accepted top n first at g.accepted.run s (run_facts_of g) g.fits w a);
-        };
-        fits = abandon_fits top n first at g.accepted.run s (run_facts_of g) g.fits w a;
-      }
+      accepted_more g w (abandons (at (open_job g.accepted.run w))) (ap₂ ◌∷◌ (ap at (job_alike (alike g) w)) g.accepted.same_places)
+      (abandon_accepted top n first at g.accepted.run s (run_facts_of g) g.fits w a) (abandon_fits top n first at g.accepted.run s (run_facts_of g) g.fits w a)
 
   pub rising_accepted : (cs : Calls V) → WellMade cs → InRange n m cs → RisingPlaces top at cs → AcceptedAt top n first own cs (positions at cs)
   rising_accepted cs wm r f = (accepted_so_far cs wm r f).accepted

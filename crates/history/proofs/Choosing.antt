@@ -1,7 +1,8 @@
 -- A register that asks a chooser for its places: what it accepts has an order, and what has an order it accepts with a script.
-use Rattle.std.proofs.Common.{◌≡◌, ℕ, zero, suc, ◌+◌, ◌<◌, ◌≤◌, min, max, Bool, true, false, cond, not, ◌&&◌, eqb, leb, ◌↔◌, List, [], ◌∷◌, reverse, sym, refl, ap, subst, arith}
+use Rattle.std.proofs.Common.{◌≡◌, ℕ, zero, suc, ◌+◌, ◌<◌, ◌≤◌, max, true, not, ◌&&◌, eqb, leb, ◌↔◌, List, [], ◌∷◌, reverse, sym, refl, ap, subst, arith}
 use mathlib.Core.List.{reverse_aux}
-use Rattle.std.proofs.lemmas.Bool.{eqb-true, eqb-false, ne_eqb, both_ways, leb-true, le-leb, le-ltb, lt-ltb, and_parts}
+use Rattle.std.proofs.lemmas.Bool.{eqb-true, eqb-false, ne_eqb, leb-true, le-leb, le-ltb, lt-ltb, and_parts, not-true, cases_eq, cond_both}
+use Rattle.std.proofs.Math.Logic.{⊎_elim}
 use Rattle.choosers.specs.Meaning.{Meaning, KeepsLaw, moved_on}
 use Rattle.choosers.specs.Script.{script_meaning}
 use Rattle.choosers.specs.Lawful.{script_lawful}
@@ -34,61 +35,35 @@ module _ {V : Type 0} (n : ℕ) (s : RegisterView V) (w : ℕ) where
   reader_parts u q =
       let k = and_parts (not (eqb u w)) (leb 1 (s.job u) && conflicts s w u n) q in
       let i = and_parts (leb 1 (s.job u)) (conflicts s w u n) k.1 in
-      (differ (eqb u w) refl k.0, leb-true 1 (s.job u) i.0, i.1)
-    where
-      differ : (b : Bool) → eqb u w ≡ b → not b ≡ true → u ≡ w → ⊥
-      differ true e t = absurd (both_ways false refl t)
-      differ false e t = eqb-false u w e
+      (eqb-false u w (not-true (eqb u w) k.0), leb-true 1 (s.job u) i.0, i.1)
 
   cell_below_bound : (n c : ℕ) → 1 ≤ c → c ≤ n → s.has_written w c ≡ true → (s.written c ≤ cells_lower_bound s w n) × (s.read c ≤ cells_lower_bound s w n)
   cell_below_bound zero c l u q = absurd (omega arith)
-  cell_below_bound (suc n) c l u q = go (eqb c (suc n)) refl (cell_below_bound n c l)
-    where
-      go : (b : Bool) → eqb c (suc n) ≡ b → (c ≤ n → s.has_written w c ≡ true → (s.written c ≤ cells_lower_bound s w n) × (s.read c ≤ cells_lower_bound s w n)) →
-          (s.written c ≤ cells_lower_bound s w (suc n)) × (s.read c ≤ cells_lower_bound s w (suc n))
-      go true e ih = rw (← eqb-true c (suc n) e, q) (omega arith, omega arith)
-      go false e ih = let k = ih (omega (arith, eqb-false c (suc n) e)) q in (omega arith, omega arith)
+  cell_below_bound (suc n) c l u q = ⊎_elim (λ e. rw (← e, q) (omega arith, omega arith))
+      (λ e. let k = cell_below_bound n c l (omega (arith, e)) q in (omega arith, omega arith)) (cases_eq c (suc n))
 
   reader_below_bound : (m u : ℕ) → 1 ≤ u → u ≤ m → is_open_reader n s w u ≡ true → s.low u + 1 ≤ readers_lower_bound n s w m
   reader_below_bound zero u l k q = absurd (omega arith)
-  reader_below_bound (suc m) u l k q = go (eqb u (suc m)) refl (reader_below_bound m u l)
-    where
-      go : (b : Bool) → eqb u (suc m) ≡ b → (u ≤ m → is_open_reader n s w u ≡ true → s.low u + 1 ≤ readers_lower_bound n s w m) → s.low u + 1 ≤ readers_lower_bound n s w (suc m)
-      go true e ih = let f : is_open_reader n s w (suc m) ≡ true = rw (← eqb-true u (suc m) e) q in rw f (omega (arith, ap s.low (eqb-true u (suc m) e)))
-      go false e ih = let k = ih (omega (arith, eqb-false u (suc m) e)) q in omega arith
+  reader_below_bound (suc m) u l k q = ⊎_elim (λ (e : u ≡ suc m). let f : is_open_reader n s w (suc m) ≡ true = rw (← e) q in rw f (omega (arith, ap s.low e)))
+      (λ e. omega (arith, reader_below_bound m u l (omega (arith, e)) q)) (cases_eq u (suc m))
 
   cells_bound_below : (p n : ℕ) → 1 ≤ p → ((c : ℕ) → s.has_written w c ≡ true → (s.written c < p) × (s.read c < p)) → cells_lower_bound s w n < p
   cells_bound_below p zero l f = l
-  cells_bound_below p (suc n) l f = go (s.has_written w (suc n)) refl (cells_bound_below p n l f)
-    where
-      go : (b : Bool) → s.has_written w (suc n) ≡ b → cells_lower_bound s w n < p → max (cond b (max (s.written (suc n)) (s.read (suc n))) 0) (cells_lower_bound s w n) < p
-      go true e ih = let k = f (suc n) e in omega arith
-      go false e ih = omega arith
+  cells_bound_below p (suc n) l f =
+      let ih = cells_bound_below p n l f in
+      cond_both (s.has_written w (suc n)) _ _ (λ k. max k (cells_lower_bound s w n) < p) (λ e. omega (arith, f (suc n) e, ih)) (λ _. omega (arith, ih))
 
   readers_bound_below : (p m : ℕ) → 1 ≤ p → ((u : ℕ) → (u ≡ w → ⊥) → 1 ≤ s.job u → conflicts s w u n ≡ true → s.low u + 1 < p) → readers_lower_bound n s w m < p
   readers_bound_below p zero l f = l
-  readers_bound_below p (suc m) l f = go (is_open_reader n s w (suc m)) refl (readers_bound_below p m l f)
-    where
-      go : (b : Bool) → is_open_reader n s w (suc m) ≡ b → readers_lower_bound n s w m < p → max (cond b (s.low (suc m) + 1) 0) (readers_lower_bound n s w m) < p
-      go true e ih = let k = reader_parts (suc m) e in omega (arith, f (suc m) k.0 k.1 k.2)
-      go false e ih = omega arith
+  readers_bound_below p (suc m) l f =
+      let ih = readers_bound_below p m l f in
+      cond_both (is_open_reader n s w (suc m)) _ _ (λ k. max k (readers_lower_bound n s w m) < p)
+      (λ e. let k = reader_parts (suc m) e in omega (arith, f (suc m) k.0 k.1 k.2, ih)) (λ _. omega (arith, ih))
 
 ---- A crew with an open job is in range
-ended_range : (m j u : ℕ) (b : Bool) → 1 ≤ cond b 0 j → (1 ≤ j → UpTo m u) → UpTo m u
-ended_range m j u true a ih = absurd (omega arith)
-ended_range m j u false a ih = ih a
-
 job_range : {V R P : Type 0} (n m : ℕ) (run : Events V R P) → InRange n m run → (u : ℕ) → 1 ≤ open_job run u → UpTo m u
 job_range n m [] r u a = absurd (omega arith)
-job_range n m (by w opens ∷ run) r u a = go (eqb w u) refl a (job_range n m run r.2 u)
-  where
-    go : (b : Bool) → eqb w u ≡ b → 1 ≤ cond b (suc (openings run)) (open_job run u) → (1 ≤ open_job run u → UpTo m u) → UpTo m u
-    go true e a ih = let q = eqb-true w u e in (omega (arith, r.0.0), omega (arith, r.0.1))
-    go false e a ih = ih a
-job_range n m (by w (reads c v) ∷ run) r u a = job_range n m run r.2 u a
-job_range n m (by w (writes c v) ∷ run) r u a = job_range n m run r.2 u a
-job_range n m (by w (commits p) ∷ run) r u a = ended_range m (open_job run u) u (eqb w u) a (job_range n m run r.2 u)
-job_range n m (by w (abandons p) ∷ run) r u a = ended_range m (open_job run u) u (eqb w u) a (job_range n m run r.2 u)
+job_range n m (by w o ∷ run) r u a = let ih = job_range n m run r.2 u in grind (arith, a, ih, r.0, eqb-true w u)
 
 module _ {V : Type 0} (z : Sizes) (first : ℕ → V) (own : ℕ → ℕ → V) where
   ---- What is accepted with a chooser is accepted at the places that it gave
@@ -146,24 +121,7 @@ module _ {V : Type 0} (z : Sizes) (first : ℕ → V) (own : ℕ → ℕ → V) 
 
   ---- What is accepted at given places is accepted with the script of them
   high_step : (s : RegisterView V) → ((u : ℕ) → s.high u ≤ z.top) → (w : ℕ) (d : Operation V V ℕ) (u : ℕ) → (view_after z.top z.cells s w d).high u ≤ z.top
-  high_step s f w opens u = go (eqb w u)
-    where
-      go : (b : Bool) → cond b z.top (s.high u) ≤ z.top
-      go true = omega arith
-      go false = f u
-  high_step s f w (reads c v) u = f u
-  high_step s f w (writes c v) u = f u
-  high_step s f w (commits p) u = go (eqb w u) (conflicts s w u z.cells)
-    where
-      go : (b e : Bool) → cond b 0 (cond e (min (s.high u) p) (s.high u)) ≤ z.top
-      go true e = omega arith
-      go false true = omega (arith, f u)
-      go false false = f u
-  high_step s f w (abandons p) u = go (eqb w u)
-    where
-      go : (b : Bool) → cond b 0 (s.high u) ≤ z.top
-      go true = omega arith
-      go false = f u
+  high_step s f w d u = grind (arith, f u)
 
   high_below : {run : History V} {s : RegisterView V} → ViewRun z.top z.cells first own run s → (u : ℕ) → s.high u ≤ z.top
   high_below ViewRun.starts u = omega arith

@@ -1,25 +1,11 @@
 -- From crews to jobs: a well-made run of crews is a well-formed history of jobs, and each open job is one crew's.
-use Rattle.std.proofs.Common.{◌≡◌, ℕ, zero, suc, ◌≤◌, Bool, true, false, cond, ◌&&◌, eqb, List, [], ◌∷◌, sym, refl, ap, ◌∙◌, arith}
-use Rattle.std.proofs.lemmas.Bool.{eqb-true, eqb-false, eq-eqb, ne_eqb, both_ways}
-use Rattle.history.specs.Events.{Operation, Event, Events, History, is_opening, is_ending, openings, open_job, by_jobs, crew_of}
-use Rattle.history.specs.Events.Operation.{opens, reads, writes, commits, abandons}
+use Rattle.std.proofs.Common.{◌≡◌, ℕ, zero, suc, ◌≤◌, true, false, cond, [], ◌∷◌, refl, ap, arith}
+use Rattle.std.proofs.lemmas.Bool.{eqb-true, eqb-false, both_ways, cond_both}
+use Rattle.history.specs.Events.{Operation, Event, Events, History, is_opening, openings, open_job, by_jobs, crew_of}
 use Rattle.history.specs.Events.Event.{by}
 use Rattle.history.specs.Projections.{projection, is_active, WellFormed}
 use Rattle.history.specs.WellMade.{WellMade}
 use Rattle.history.proofs.Moments.{projection_zero}
-
-open_job_step : (opening ending same : Bool) (n j : ℕ) → j ≤ n → cond (opening && same) (suc n) (cond (ending && same) 0 j) ≤ cond opening (suc n) n
-open_job_step true ending true n j l = omega arith
-open_job_step true true false n j l = omega arith
-open_job_step true false false n j l = omega arith
-open_job_step false true true n j l = omega arith
-open_job_step false true false n j l = l
-open_job_step false false same n j l = l
-
-ended_one_crew : (w u : ℕ) (x y : Bool) (i j : ℕ) → 1 ≤ cond x 0 i → cond x 0 i ≡ cond y 0 j → (1 ≤ i → i ≡ j → w ≡ u) → w ≡ u
-ended_one_crew w u true y i j a e ih = absurd (omega arith)
-ended_one_crew w u false true i j a e ih = absurd (omega arith)
-ended_one_crew w u false false i j a e ih = ih a e
 
 module _ {V R P : Type 0} where
   pub openings_by_job : (run : Events V R P) → openings (by_jobs run) ≡ openings run
@@ -27,112 +13,39 @@ module _ {V R P : Type 0} where
   openings_by_job (by w o ∷ run) = ap (λ n. cond (is_opening o) (suc n) n) (openings_by_job run)
 
   pub openings_tail : (w : ℕ) (o : Operation V R P) (run : Events V R P) → openings run ≤ openings (by w o ∷ run)
-  openings_tail w o run = go (is_opening o)
-    where
-      go : (b : Bool) → openings run ≤ cond b (suc (openings run)) (openings run)
-      go true = omega arith
-      go false = omega arith
+  openings_tail w o run = cond_both (is_opening o) _ _ (λ k. openings run ≤ k) (λ _. omega arith) (λ _. omega arith)
 
   pub open_job_numbered : (run : Events V R P) (w : ℕ) → open_job run w ≤ openings run
   open_job_numbered [] w = omega arith
-  open_job_numbered (by u o ∷ run) w = open_job_step (is_opening o) (is_ending o) (eqb u w) (openings run) (open_job run w) (open_job_numbered run w)
+  open_job_numbered (by u o ∷ run) w = let ih = open_job_numbered run w in grind arith
 
 module _ {V : Type 0} where
   -- a job is one crew's
   pub one_crew : (run : History V) (w u : ℕ) → 1 ≤ open_job run w → open_job run w ≡ open_job run u → w ≡ u
   one_crew [] w u a e = absurd (omega arith)
-  one_crew (by k opens ∷ run) w u a e = go (eqb k w) (eqb k u) refl refl a e (open_job_numbered run w) (open_job_numbered run u) (one_crew run w u)
-    where
-      go : (x y : Bool) → eqb k w ≡ x → eqb k u ≡ y → 1 ≤ cond x (suc (openings run)) (open_job run w) →
-          cond x (suc (openings run)) (open_job run w) ≡ cond y (suc (openings run)) (open_job run u) → open_job run w ≤ openings run → open_job run u ≤ openings run →
-          (1 ≤ open_job run w → open_job run w ≡ open_job run u → w ≡ u) → w ≡ u
-      go true true p q a e l m ih = sym (eqb-true k w p) ∙ eqb-true k u q
-      go true false p q a e l m ih = absurd (omega arith)
-      go false true p q a e l m ih = absurd (omega arith)
-      go false false p q a e l m ih = ih a e
-  one_crew (by k (reads c v) ∷ run) w u a e = one_crew run w u a e
-  one_crew (by k (writes c v) ∷ run) w u a e = one_crew run w u a e
-  one_crew (by k (commits p) ∷ run) w u a e = ended_one_crew w u (eqb k w) (eqb k u) (open_job run w) (open_job run u) a e (one_crew run w u)
-  one_crew (by k (abandons p) ∷ run) w u a e = ended_one_crew w u (eqb k w) (eqb k u) (open_job run w) (open_job run u) a e (one_crew run w u)
-
-  active_either : (s t : List (Operation V V ℕ)) (b : Bool) → is_active s ≡ true → is_active t ≡ true → is_active (cond b s t) ≡ true
-  active_either s t true p q = p
-  active_either s t false p q = q
-
-  -- an ending of crew u leaves the job of another crew as it was
-  still_open_active : (run : History V) (u w : ℕ) (o : Operation V V ℕ) (b : Bool) → eqb u w ≡ b → 1 ≤ cond b 0 (open_job run w) →
-      (1 ≤ open_job run w → is_active (projection (by_jobs run) (open_job run w)) ≡ true) →
-      is_active (projection (by (open_job run u) o ∷ by_jobs run) (cond b 0 (open_job run w))) ≡ true
-  still_open_active run u w o true e a ih = absurd (omega arith)
-  still_open_active run u w o false e a ih = rw (ne_eqb (open_job run u) (open_job run w) (λ q. eqb-false u w e (sym (one_crew run w u a (sym q))))) (ih a)
+  one_crew (by k o ∷ run) w u a e = let ih = one_crew run w u in grind (arith, a, e, ih, open_job_numbered run w, open_job_numbered run u, eqb-true k w, eqb-true k u)
 
   -- a crew's job is open
   pub open_job_active : (run : History V) (w : ℕ) → 1 ≤ open_job run w → is_active (projection (by_jobs run) (open_job run w)) ≡ true
   open_job_active [] w a = absurd (omega arith)
-  open_job_active (by u opens ∷ run) w a = go (eqb u w) a (open_job_numbered run w) (open_job_active run w)
-    where
-      go : (b : Bool) → 1 ≤ cond b (suc (openings run)) (open_job run w) → open_job run w ≤ openings run →
-          (1 ≤ open_job run w → is_active (projection (by_jobs run) (open_job run w)) ≡ true) →
-          is_active (projection (by (suc (openings run)) opens ∷ by_jobs run) (cond b (suc (openings run)) (open_job run w))) ≡ true
-      go true a l ih = rw (eq-eqb (suc (openings run)) (suc (openings run)) refl)
-      go false a l ih = rw (ne_eqb (suc (openings run)) (open_job run w) (λ e. omega arith)) (ih a)
-  open_job_active (by u (reads c v) ∷ run) w a = let ih = open_job_active run w a in active_either _ _ (eqb (open_job run u) (open_job run w)) ih ih
-  open_job_active (by u (writes c v) ∷ run) w a = let ih = open_job_active run w a in active_either _ _ (eqb (open_job run u) (open_job run w)) ih ih
-  open_job_active (by u (commits p) ∷ run) w a = still_open_active run u w (commits p) (eqb u w) refl a (open_job_active run w)
-  open_job_active (by u (abandons p) ∷ run) w a = still_open_active run u w (abandons p) (eqb u w) refl a (open_job_active run w)
+  open_job_active (by u o ∷ run) w a = let ih = open_job_active run w in grind (arith, a, ih, open_job_numbered run w, one_crew run w u, eqb-false u w)
 
   pub well_made_tail : (a : Event V V ℕ) (run : History V) → WellMade (a ∷ run) → WellMade run
   well_made_tail (by w o) run wm = wm.1
 
   pub well_formed : (run : History V) → WellMade run → WellFormed (by_jobs run)
   well_formed [] wm = tt
-  well_formed (by w opens ∷ run) wm = (ap suc (sym (openings_by_job run)), well_formed run wm.1)
-  well_formed (by w (reads c v) ∷ run) wm = (open_job_active run w wm.0, well_formed run wm.1)
-  well_formed (by w (writes c v) ∷ run) wm = (open_job_active run w wm.0, well_formed run wm.1)
-  well_formed (by w (commits p) ∷ run) wm = (open_job_active run w wm.0, well_formed run wm.1)
-  well_formed (by w (abandons p) ∷ run) wm = (open_job_active run w wm.0, well_formed run wm.1)
-
-  still_crew : (run : History V) (w : ℕ) (b : Bool) → 1 ≤ cond b 0 (open_job run w) → (1 ≤ open_job run w → crew_of run (open_job run w) ≡ w) → crew_of run (cond b 0 (open_job run w)) ≡ w
-  still_crew run w true a ih = absurd (omega arith)
-  still_crew run w false a ih = ih a
+  well_formed (by w o ∷ run) wm = (grind (arith, wm, openings_by_job run, open_job_active run w), well_formed run wm.1)
 
   -- the crew of an open job has it
   pub crew_of_open_job : (run : History V) (w : ℕ) → 1 ≤ open_job run w → crew_of run (open_job run w) ≡ w
   crew_of_open_job [] w a = absurd (omega arith)
-  crew_of_open_job (by u opens ∷ run) w a = go (eqb u w) refl a (open_job_numbered run w) (crew_of_open_job run w)
-    where
-      go : (b : Bool) → eqb u w ≡ b → 1 ≤ cond b (suc (openings run)) (open_job run w) → open_job run w ≤ openings run →
-          (1 ≤ open_job run w → crew_of run (open_job run w) ≡ w) → crew_of (by u opens ∷ run) (cond b (suc (openings run)) (open_job run w)) ≡ w
-      go true e a l ih = rw (eq-eqb (suc (openings run)) (suc (openings run)) refl) (eqb-true u w e)
-      go false e a l ih = rw (ne_eqb (suc (openings run)) (open_job run w) (λ q. omega arith)) (ih a)
-  crew_of_open_job (by u (reads c v) ∷ run) w a = crew_of_open_job run w a
-  crew_of_open_job (by u (writes c v) ∷ run) w a = crew_of_open_job run w a
-  crew_of_open_job (by u (commits p) ∷ run) w a = still_crew run w (eqb u w) a (crew_of_open_job run w)
-  crew_of_open_job (by u (abandons p) ∷ run) w a = still_crew run w (eqb u w) a (crew_of_open_job run w)
+  crew_of_open_job (by u o ∷ run) w a = let ih = crew_of_open_job run w in grind (arith, a, ih, open_job_numbered run w, eqb-true u w)
 
   pub active_positive : (run : History V) → WellMade run → (x : ℕ) → is_active (projection (by_jobs run) x) ≡ true → 1 ≤ x
   active_positive run wm zero o = absurd (both_ways (is_active (projection (by_jobs run) 0)) (ap is_active (projection_zero (by_jobs run) (well_formed run wm))) o)
   active_positive run wm (suc x) o = omega arith
 
-  ended_crew : (run : History V) (u x j : ℕ) (d : Operation V V ℕ) → ((s : List (Operation V V ℕ)) → is_active (d ∷ s) ≡ false) → open_job run u ≡ j → (b : Bool) →
-      eqb j x ≡ b → is_active (cond b (d ∷ projection (by_jobs run) x) (projection (by_jobs run) x)) ≡ true →
-      (is_active (projection (by_jobs run) x) ≡ true → open_job run (crew_of run x) ≡ x) → cond (eqb u (crew_of run x)) 0 (open_job run (crew_of run x)) ≡ x
-  ended_crew run u x j d over q true e o ih = absurd (both_ways (is_active (d ∷ projection (by_jobs run) x)) (over (projection (by_jobs run) x)) o)
-  ended_crew run u x j d over q false e o ih = rw (ne_eqb u (crew_of run x) (λ k. eqb-false j x e (sym q ∙ (ap (open_job run) k ∙ ih o)))) (ih o)
-
-  still_active : (s t : List (Operation V V ℕ)) (b : Bool) → is_active s ≡ is_active t → is_active (cond b s t) ≡ true → is_active t ≡ true
-  still_active s t true e o = sym e ∙ o
-  still_active s t false e o = o
-
   pub active_has_crew : (run : History V) → WellMade run → (x : ℕ) → is_active (projection (by_jobs run) x) ≡ true → open_job run (crew_of run x) ≡ x
   active_has_crew [] wm x o = absurd (both_ways false refl o)
-  active_has_crew (by u opens ∷ run) wm x o = go (eqb (suc (openings run)) x) refl o (active_has_crew run wm.1 x)
-    where
-      go : (b : Bool) → eqb (suc (openings run)) x ≡ b → is_active (cond b (opens ∷ projection (by_jobs run) x) (projection (by_jobs run) x)) ≡ true →
-          (is_active (projection (by_jobs run) x) ≡ true → open_job run (crew_of run x) ≡ x) → open_job (by u opens ∷ run) (cond b u (crew_of run x)) ≡ x
-      go true e o ih = rw (eq-eqb u u refl) (eqb-true (suc (openings run)) x e)
-      go false e o ih = rw (ne_eqb u (crew_of run x) (λ k. omega (arith, active_positive run wm.1 x o, wm.0, ap (open_job run) k ∙ ih o))) (ih o)
-  active_has_crew (by u (reads c v) ∷ run) wm x o = active_has_crew run wm.1 x (still_active (reads c v ∷ projection (by_jobs run) x) (projection (by_jobs run) x) (eqb (open_job run u) x) refl o)
-  active_has_crew (by u (writes c v) ∷ run) wm x o = active_has_crew run wm.1 x (still_active (writes c v ∷ projection (by_jobs run) x) (projection (by_jobs run) x) (eqb (open_job run u) x) refl o)
-  active_has_crew (by u (commits p) ∷ run) wm x o = ended_crew run u x (open_job run u) (commits p) (λ s. refl) refl (eqb (open_job run u) x) refl o (active_has_crew run wm.1 x)
-  active_has_crew (by u (abandons p) ∷ run) wm x o = ended_crew run u x (open_job run u) (abandons p) (λ s. refl) refl (eqb (open_job run u) x) refl o (active_has_crew run wm.1 x)
+  active_has_crew (by u d ∷ run) wm x o = let ih = active_has_crew run wm.1 x in grind (arith, o, ih, wm.0, active_positive run wm.1 x, eqb-true u (crew_of run x))

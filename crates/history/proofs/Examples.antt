@@ -1,6 +1,7 @@
 -- What specs/Examples says of its histories.
-use Rattle.std.proofs.Common.{◌≡◌, ℕ, ◌^◌, ◌≤◌, Bool, true, false, cond, eqb, ◌⊎◌, List, [], ◌∷◌, refl, subst, inl, inr, arith, lit≤}
-use Rattle.std.proofs.lemmas.Bool.{eqb-true, eqb-false, both_ways}
+use Rattle.std.proofs.Common.{◌≡◌, ℕ, ◌+◌, ◌^◌, ◌≤◌, Bool, true, false, eqb, leb, T, ◌⊎◌, List, [], ◌∷◌, refl, subst, inl, inr, arith, lit≤}
+use Rattle.std.proofs.Math.Logic.{⊎_map, ⊎_swap}
+use Rattle.std.proofs.lemmas.Bool.{eqb-true, both_ways, cases_eq, cond_both}
 use Rattle.choosers.specs.Meaning.{Meaning}
 use Rattle.choosers.specs.Script.{script_meaning}
 use Rattle.choosers.specs.Lawful.{script_lawful}
@@ -15,10 +16,10 @@ use Rattle.history.specs.SerialExecution.{execute_job, execute_serially, Seriall
 use Rattle.history.specs.WellMade.{WellMade, Calls, calls_of}
 use Rattle.history.specs.Bounds.{Placed, sort_key, Ascending, Bounds, bounds_by_job}
 use Rattle.history.specs.Views.{RegisterView, bounds_of}
-use Rattle.history.specs.Acceptance.{RunWith, AcceptedWith}
+use Rattle.history.specs.Acceptance.{AtWork, RunWith, AcceptedWith}
 use Rattle.history.specs.Acceptance.RunWith.{starts, goes_on}
 use Rattle.history.specs.Examples.{first_values, small, crossed_reads, CrossedReadsHaveNoOrder, overtaking, OvertakingHasAnOrder, read_skew, ReadSkewIsNotExplained, in_turn, at_once, RealTimeIsKept}
-use Rattle.history.proofs.Rows.{one_way, in_later, in_cases, in_nil, in_head}
+use Rattle.history.proofs.Rows.{one_way, in_later, in_cases, in_nil, in_one, in_head}
 use Rattle.history.proofs.Ordering.{ascending_is_order, orders_explain}
 use Rattle.history.proofs.Crews.{well_formed}
 use Rattle.history.proofs.Viewing.{views_agree}
@@ -78,11 +79,7 @@ crossed_reads_lem = record {
 
 -- the second stands before the first, and no other pair stands so
 pair_row : (a b x y : ℕ) → StandsBefore (a ∷ b ∷ []) x y → (x ≡ b) × (y ≡ a)
-pair_row a b x y (earlier, here, i) = (only_one (in_cases x b [] i), refl)
-  where
-    only_one : (x ≡ b) ⊎ In x [] → x ≡ b
-    only_one (inl e) = e
-    only_one (inr k) = absurd (in_nil x k)
+pair_row a b x y (earlier, here, i) = (in_one x b i, refl)
 pair_row a b x y (earlier, later here, i) = absurd (in_nil x i)
 pair_row a b x y (earlier, later (later s), i) = absurd (in_nil y (earlier, s))
 
@@ -91,26 +88,10 @@ pair_in a b x (inl e) = in_head x a (b ∷ []) e
 pair_in a b x (inr e) = in_later x a (b ∷ []) (in_head x b [] e)
 
 pair_cases : (a b x : ℕ) → In x (a ∷ b ∷ []) → (x ≡ a) ⊎ (x ≡ b)
-pair_cases a b x i = go (in_cases x a (b ∷ []) i)
-  where
-    second : (x ≡ b) ⊎ In x [] → (x ≡ a) ⊎ (x ≡ b)
-    second (inl e) = inr e
-    second (inr k) = absurd (in_nil x k)
-
-    go : (x ≡ a) ⊎ In x (b ∷ []) → (x ≡ a) ⊎ (x ≡ b)
-    go (inl e) = inl e
-    go (inr k) = second (in_cases x b [] k)
+pair_cases a b x i = ⊎_map (λ e. e) (in_one x b) (in_cases x a (b ∷ []) i)
 
 one_or_two : (x : ℕ) → 1 ≤ x → x ≤ 2 → (x ≡ 1) ⊎ (x ≡ 2)
-one_or_two x l u = go (eqb x 1) refl
-  where
-    go : (k : Bool) → eqb x 1 ≡ k → (x ≡ 1) ⊎ (x ≡ 2)
-    go true e = inl (eqb-true x 1 e)
-    go false e = inr (omega (arith, eqb-false x 1 e))
-
-other_way : {A B : Type 0} → A ⊎ B → B ⊎ A
-other_way (inl a) = inr a
-other_way (inr b) = inl b
+one_or_two x l u = ⊎_map (λ e. e) (λ n. omega (arith, n)) (cases_eq x 1)
 
 up_to_two : (x : ℕ) → (x ≡ 1) ⊎ (x ≡ 2) → (1 ≤ x) × (x ≤ 2)
 up_to_two x (inl e) = (omega arith, omega arith)
@@ -137,11 +118,15 @@ module _ (run : History ℕ) (numbers : List ℕ) {s : RegisterView ℕ} {f : Me
   one_then_two : sort_key (by_jobs run) bounds.low 1 ≤ sort_key (by_jobs run) bounds.low 2 → SerializationOrder (by_jobs run) (2 ∷ 1 ∷ [])
   one_then_two l = ascending_is_order (by_jobs run) bounds.low bounds.high placed (2 ∷ 1 ∷ [])
       (λ x p. let k = pair_row 2 1 x x p in omega (arith, k.0, k.1))
-      (λ x u v. pair_in 2 1 x (other_way (one_or_two x u (omega arith))))
-      (λ x i. let k = up_to_two x (other_way (pair_cases 2 1 x i)) in (k.0, omega arith))
+      (λ x u v. pair_in 2 1 x (⊎_swap (one_or_two x u (omega arith))))
+      (λ x i. let k = up_to_two x (⊎_swap (pair_cases 2 1 x i)) in (k.0, omega arith))
       (ascending_pair 2 1 l)
 
 ---- Overtaking
+
+-- by counting
+works : {s : RegisterView ℕ} {w : ℕ} → T (leb 1 w) → T (leb w 2) → T (leb 1 (s.job w)) → T (leb (s.low w + 2) (s.high w)) → T (leb (s.high w) (2 ^ 62)) → AtWork small s w
+works a b c d e = record { a_crew = (lit≤ a, lit≤ b); a_job = lit≤ c; room = lit≤ d; below_top = lit≤ e }
 
 overtaking_accepted : AcceptedWith (script_meaning (6 ∷ 3 ∷ [])) small first_values (λ w c. 0) (calls_of overtaking)
 overtaking_accepted = record {
@@ -153,12 +138,12 @@ overtaking_accepted = record {
       goes_on (goes_on (goes_on (goes_on (goes_on (goes_on (goes_on (goes_on starts
       ((lit≤ tt, lit≤ tt), refl, lit≤ tt, lit≤ tt))
       ((lit≤ tt, lit≤ tt), refl, lit≤ tt, lit≤ tt))
-      (record { a_crew = (lit≤ tt, lit≤ tt); a_job = lit≤ tt; room = lit≤ tt; below_top = lit≤ tt }, (lit≤ tt, lit≤ tt)))
-      (record { a_crew = (lit≤ tt, lit≤ tt); a_job = lit≤ tt; room = lit≤ tt; below_top = lit≤ tt }, (lit≤ tt, lit≤ tt), refl, λ _. lit≤ tt))
-      (record { a_crew = (lit≤ tt, lit≤ tt); a_job = lit≤ tt; room = lit≤ tt; below_top = lit≤ tt }, (lit≤ tt, lit≤ tt)))
-      (record { a_crew = (lit≤ tt, lit≤ tt); a_job = lit≤ tt; room = lit≤ tt; below_top = lit≤ tt }, lit≤ tt, refl))
-      (record { a_crew = (lit≤ tt, lit≤ tt); a_job = lit≤ tt; room = lit≤ tt; below_top = lit≤ tt }, (lit≤ tt, lit≤ tt), refl, λ _. lit≤ tt))
-      (record { a_crew = (lit≤ tt, lit≤ tt); a_job = lit≤ tt; room = lit≤ tt; below_top = lit≤ tt }, lit≤ tt, refl);
+      (works tt tt tt tt tt, (lit≤ tt, lit≤ tt)))
+      (works tt tt tt tt tt, (lit≤ tt, lit≤ tt), refl, λ _. lit≤ tt))
+      (works tt tt tt tt tt, (lit≤ tt, lit≤ tt)))
+      (works tt tt tt tt tt, lit≤ tt, refl))
+      (works tt tt tt tt tt, (lit≤ tt, lit≤ tt), refl, λ _. lit≤ tt))
+      (works tt tt tt tt tt, lit≤ tt, refl);
 }
 
 overtaking_order : SerializationOrder (by_jobs overtaking) (1 ∷ 2 ∷ [])
@@ -177,10 +162,6 @@ overtaking_explained =
 second_told_15 : SeriallyExplained first_values (by_jobs overtaking) (2 ∷ 1 ∷ []) → ⊥
 second_told_15 ex = let e : ◌≡◌ {A = List ℕ} (25 ∷ 15 ∷ []) (25 ∷ 10 ∷ []) = ex.same_observed 2 (1 ∷ []) here in let f : ◌≡◌ {A = ℕ} 15 10 = cc in omega arith
 
-in_turn_lem : (b : Bool) → ◌≡◌ {A = ℕ} (cond b 0 (cond b 1 0)) 0
-in_turn_lem true = refl
-in_turn_lem false = refl
-
 pub overtaking_has_order : OvertakingHasAnOrder
 unfolding overtaking_accepted
 overtaking_has_order = record {
@@ -198,7 +179,7 @@ overtaking_has_order = record {
         λ e. absurd (both_ways false refl e),
         (
           λ e. absurd (both_ways false refl e),
-          (λ e u. in_turn_lem (eqb 1 u), (λ e. absurd (both_ways false refl e), (λ e. absurd (both_ways false refl e), (λ e u. refl, tt)))),
+          (λ e u. cond_both (eqb 1 u) _ _ (λ k. k ≡ 0) (λ _. refl) (λ q. rw q refl), (λ e. absurd (both_ways false refl e), (λ e. absurd (both_ways false refl e), (λ e u. refl, tt)))),
         ),
       ),
     ),
@@ -274,11 +255,11 @@ in_turn_accepted = record {
   run_with =
       goes_on (goes_on (goes_on (goes_on (goes_on (goes_on starts
       ((lit≤ tt, lit≤ tt), refl, lit≤ tt, lit≤ tt))
-      (record { a_crew = (lit≤ tt, lit≤ tt); a_job = lit≤ tt; room = lit≤ tt; below_top = lit≤ tt }, (lit≤ tt, lit≤ tt)))
-      (record { a_crew = (lit≤ tt, lit≤ tt); a_job = lit≤ tt; room = lit≤ tt; below_top = lit≤ tt }, lit≤ tt, refl))
+      (works tt tt tt tt tt, (lit≤ tt, lit≤ tt)))
+      (works tt tt tt tt tt, lit≤ tt, refl))
       ((lit≤ tt, lit≤ tt), refl, lit≤ tt, lit≤ tt))
-      (record { a_crew = (lit≤ tt, lit≤ tt); a_job = lit≤ tt; room = lit≤ tt; below_top = lit≤ tt }, (lit≤ tt, lit≤ tt)))
-      (record { a_crew = (lit≤ tt, lit≤ tt); a_job = lit≤ tt; room = lit≤ tt; below_top = lit≤ tt }, lit≤ tt, refl);
+      (works tt tt tt tt tt, (lit≤ tt, lit≤ tt)))
+      (works tt tt tt tt tt, lit≤ tt, refl);
 }
 
 at_once_accepted : AcceptedWith (script_meaning (1 ∷ 1 ∷ [])) small first_values (λ w c. 0) (calls_of at_once)
@@ -291,10 +272,10 @@ at_once_accepted = record {
       goes_on (goes_on (goes_on (goes_on (goes_on (goes_on starts
       ((lit≤ tt, lit≤ tt), refl, lit≤ tt, lit≤ tt))
       ((lit≤ tt, lit≤ tt), refl, lit≤ tt, lit≤ tt))
-      (record { a_crew = (lit≤ tt, lit≤ tt); a_job = lit≤ tt; room = lit≤ tt; below_top = lit≤ tt }, (lit≤ tt, lit≤ tt)))
-      (record { a_crew = (lit≤ tt, lit≤ tt); a_job = lit≤ tt; room = lit≤ tt; below_top = lit≤ tt }, (lit≤ tt, lit≤ tt)))
-      (record { a_crew = (lit≤ tt, lit≤ tt); a_job = lit≤ tt; room = lit≤ tt; below_top = lit≤ tt }, lit≤ tt, refl))
-      (record { a_crew = (lit≤ tt, lit≤ tt); a_job = lit≤ tt; room = lit≤ tt; below_top = lit≤ tt }, lit≤ tt, refl);
+      (works tt tt tt tt tt, (lit≤ tt, lit≤ tt)))
+      (works tt tt tt tt tt, (lit≤ tt, lit≤ tt)))
+      (works tt tt tt tt tt, lit≤ tt, refl))
+      (works tt tt tt tt tt, lit≤ tt, refl);
 }
 
 pub real_time_kept : RealTimeIsKept

@@ -1,7 +1,7 @@
 -- Serial execution in a respectful row explains what was told: by induction on one more event of the history, with the row as it is.
-use Rattle.std.proofs.Common.{◌≡◌, ℕ, Bool, true, false, cond, eqb, List, [], ◌∷◌, Some, None, Option, unwrap_or, sym, refl, ap, ◌∙◌, ap₂, inl, inr}
-use Rattle.std.proofs.lemmas.Bool.{eqb-true, eq-eqb}
-use Rattle.history.specs.Events.{Operation, Event, History}
+use Rattle.std.proofs.Common.{◌≡◌, ℕ, Bool, true, false, cond, eqb, List, [], ◌∷◌, Some, None, Option, unwrap_or, sym, refl, ap, ◌∙◌, ap₂, inl, inr, arith}
+use Rattle.std.proofs.lemmas.Bool.{eqb-true, eq-eqb, cond_both, or_right}
+use Rattle.history.specs.Events.{Operation, Event, History, is_commit}
 use Rattle.history.specs.Events.Operation.{opens, reads, writes, commits, abandons}
 use Rattle.history.specs.Events.Event.{by}
 use Rattle.history.specs.Projections.{projection, buffered, is_committed, WellFormed}
@@ -12,17 +12,6 @@ use Rattle.history.specs.Precedence.Precedes.{committed_read, read_committed, co
 use Rattle.history.proofs.ShortForm.{observes, installs, left_by, Explains}
 use Rattle.history.proofs.Rows.{extends_trans, one_way}
 use Rattle.history.proofs.Moments.{occurs_here, precedes_later, buffered_wrote, unbuffered_unwritten, active_uncommitted, installed_committed, FirstHand, first_hand_read}
-
-either : {A : Type 0} {u w : A} (P : A → Type 0) (b : Bool) → P u → P w → P (cond b u w)
-either P true p q = p
-either P false p q = q
-
-either_eq : {A : Type 0} {u w : A} (P : A → Type 0) (x y : ℕ) → (x ≡ y → P u) → P w → P (cond (eqb x y) u w)
-either_eq {A} {u} {w} P x y p q = go (eqb x y) refl
-  where
-    go : (b : Bool) → eqb x y ≡ b → P (cond b u w)
-    go true e = p (eqb-true x y e)
-    go false e = q
 
 module _ {V : Type 0} (first : ℕ → V) where
   -- jobs of the row that install nothing into c can be passed over
@@ -65,12 +54,7 @@ module _ {V : Type 0} (first : ℕ → V) where
   no_breach_tail a h row r y ea x eb s t b = r y ea x eb s t (precedes_later a b)
 
   still_committed : (d : Operation V V ℕ) (s : List (Operation V V ℕ)) (b : Bool) → is_committed s ≡ true → is_committed (cond b (d ∷ s) s) ≡ true
-  still_committed d s false q = q
-  still_committed opens s true q = q
-  still_committed (reads c v) s true q = q
-  still_committed (writes c v) s true q = q
-  still_committed (commits p) s true q = refl
-  still_committed (abandons p) s true q = q
+  still_committed d s b q = cond_both b (d ∷ s) s (λ t. is_committed t ≡ true) (λ _. or_right (is_commit d) (is_committed s) q) (λ _. q)
 
   has_committed_tail : (a : Event V V ℕ) (h : History V) (row : List ℕ) → HasCommitted (a ∷ h) row → HasCommitted h row
   unfolding HasCommitted
@@ -78,20 +62,13 @@ module _ {V : Type 0} (first : ℕ → V) where
 
   -- a commit changes what one job installs, and no other event changes what any job installs
   commit_installs : (h : History V) (x p z c : ℕ) → (x ≡ z → buffered (projection h z) c ≡ None) → installs (projection (by x (commits p) ∷ h) z) c ≡ installs (projection h z) c
-  commit_installs h x p z c n = go (eqb x z) refl (is_committed (projection h z))
-    where
-      go : (b : Bool) → eqb x z ≡ b → (k : Bool) → installs (cond b (commits p ∷ projection h z) (projection h z)) c ≡ installs (projection h z) c
-      go true e k = n (eqb-true x z e) ∙ sym (ap (λ o. cond (is_committed (projection h z)) o None) (n (eqb-true x z e)) ∙ nones (is_committed (projection h z)))
-        where
-          nones : (b : Bool) → ◌≡◌ {A = Option V} (cond b None None) None
-          nones true = refl
-          nones false = refl
-      go false e k = refl
+  commit_installs h x p z c n = cond_both (eqb x z) _ _ (λ k. installs k c ≡ installs (projection h z) c)
+      (λ e. let q = n (eqb-true x z e) in q ∙ sym (cond_both (is_committed (projection h z)) _ _ (λ (o : Option V). o ≡ None) (λ _. q) (λ _. refl)))
+      (λ _. refl)
 
   write_installs : (h : History V) (x k z c : ℕ) (v : V) (b : Bool) → eqb x z ≡ b → is_committed (projection h x) ≡ false →
       installs (cond b (writes k v ∷ projection h z) (projection h z)) c ≡ installs (projection h z) c
-  write_installs h x k z c v true e n = let m : is_committed (projection h z) ≡ false = rw (eqb-true x z e) at n in rw m
-  write_installs h x k z c v false e n = refl
+  write_installs h x k z c v b e n = grind (arith, e, n, eqb-true x z)
 
   -- what is proved by induction on the history, for one row
   record Explained (h : History V) (row : List ℕ) : Type 0 where
@@ -132,7 +109,7 @@ module _ {V : Type 0} (first : ℕ → V) where
       Explained h row → Explained (by x (commits p) ∷ h) row
   unfolding NoBreach
   commit_step h row x p wf once (ex, sx) resp ih = record {
-    so_observed = λ y ea s. either (λ k. observes (left_by new first ea) k ≡ observed k) (eqb x y) (keeps y ea s) (keeps y ea s);
+    so_observed = λ y ea s. cond_both (eqb x y) _ _ (λ k. observes (left_by new first ea) k ≡ observed k) (λ _. keeps y ea s) (λ _. keeps y ea s);
     so_left = λ c. ends c (buffered (projection h x) c) refl;
   }
     where
@@ -164,23 +141,23 @@ module _ {V : Type 0} (first : ℕ → V) where
   explain [] row o wf rc w r = record { so_observed = λ y ea s. refl; so_left = λ c. left_by_none c row }
   explain (by x opens ∷ h) row o wf rc w r =
       let ih = explain h row o wf.1 rc (has_committed_tail (by x opens) h row w) (no_breach_tail (by x opens) h row r) in
-      installs_nothing h row (by x opens) ih (λ z c. either (λ k. installs k c ≡ installs (projection h z) c) (eqb x z) refl refl) (λ c. refl)
-      (λ y ea s. either (λ k. observes (left_by (projection h) first ea) k ≡ observed k) (eqb x y) (ih.so_observed y ea s) (ih.so_observed y ea s))
+      installs_nothing h row (by x opens) ih (λ z c. cond_both (eqb x z) _ _ (λ k. installs k c ≡ installs (projection h z) c) (λ _. refl) (λ _. refl)) (λ c. refl)
+      (λ y ea s. cond_both (eqb x y) _ _ (λ k. observes (left_by (projection h) first ea) k ≡ observed k) (λ _. ih.so_observed y ea s) (λ _. ih.so_observed y ea s))
   explain (by x (reads c v) ∷ h) row o wf rc w r =
       let ih = explain h row o wf.1 rc.1 (has_committed_tail (by x (reads c v)) h row w) (no_breach_tail (by x (reads c v)) h row r) in
-      installs_nothing h row (by x (reads c v)) ih (λ z c. either (λ k. installs k c ≡ installs (projection h z) c) (eqb x z) refl refl) (λ c. refl)
-      (λ y ea s. either_eq (λ k. observes (left_by (projection h) first ea) k ≡ observed k) x y (λ e. ap₂ ◌∷◌ (rw (← e) (read_step h row x c v wf r ih rc.0 ea (rw e s))) (ih.so_observed y ea s)) (ih.so_observed y ea s))
+      installs_nothing h row (by x (reads c v)) ih (λ z c. cond_both (eqb x z) _ _ (λ k. installs k c ≡ installs (projection h z) c) (λ _. refl) (λ _. refl)) (λ c. refl)
+      (λ y ea s. cond_both (eqb x y) _ _ (λ k. observes (left_by (projection h) first ea) k ≡ observed k) (λ t. let e = eqb-true x y t in ap₂ ◌∷◌ (rw (← e) (read_step h row x c v wf r ih rc.0 ea (rw e s))) (ih.so_observed y ea s)) (λ _. ih.so_observed y ea s))
   explain (by x (writes c v) ∷ h) row o wf rc w r =
       let ih = explain h row o wf.1 rc (has_committed_tail (by x (writes c v)) h row w) (no_breach_tail (by x (writes c v)) h row r) in
       installs_nothing h row (by x (writes c v)) ih (λ z k. write_installs h x c z k v (eqb x z) refl (active_uncommitted h wf.1 x wf.0)) (λ c. refl)
-      (λ y ea s. either (λ k. observes (left_by (projection h) first ea) k ≡ observed k) (eqb x y) (ih.so_observed y ea s) (ih.so_observed y ea s))
+      (λ y ea s. cond_both (eqb x y) _ _ (λ k. observes (left_by (projection h) first ea) k ≡ observed k) (λ _. ih.so_observed y ea s) (λ _. ih.so_observed y ea s))
   explain (by x (commits p) ∷ h) row o wf rc w r =
       let ih = explain h row o wf.1 rc (has_committed_tail (by x (commits p)) h row w) (no_breach_tail (by x (commits p)) h row r) in
       commit_step h row x p wf o (w x (rw (eq-eqb x x refl))) r ih
   explain (by x (abandons p) ∷ h) row o wf rc w r =
       let ih = explain h row o wf.1 rc (has_committed_tail (by x (abandons p)) h row w) (no_breach_tail (by x (abandons p)) h row r) in
-      installs_nothing h row (by x (abandons p)) ih (λ z c. either (λ k. installs k c ≡ installs (projection h z) c) (eqb x z) refl refl) (λ c. refl)
-      (λ y ea s. either (λ k. observes (left_by (projection h) first ea) k ≡ observed k) (eqb x y) (ih.so_observed y ea s) (ih.so_observed y ea s))
+      installs_nothing h row (by x (abandons p)) ih (λ z c. cond_both (eqb x z) _ _ (λ k. installs k c ≡ installs (projection h z) c) (λ _. refl) (λ _. refl)) (λ c. refl)
+      (λ y ea s. cond_both (eqb x y) _ _ (λ k. observes (left_by (projection h) first ea) k ≡ observed k) (λ _. ih.so_observed y ea s) (λ _. ih.so_observed y ea s))
 
   no_breach : (h : History V) (row : List ℕ) → Respects h row → NoBreach h row
   unfolding NoBreach

@@ -1,18 +1,16 @@
 -- What a projection says of the history: from a job's own operations to the moments at which they occur.
-use Rattle.std.proofs.Common.{◌≡◌, ℕ, zero, suc, ◌<◌, ◌≤◌, Bool, true, false, cond, eqb, ◌⊎◌, List, [], ◌∷◌, Some, None, Option, sym, refl, ap, ◌∙◌, subst, inl, inr, arith}
-use Rattle.std.proofs.lemmas.Bool.{eqb-true, eq-eqb, ne_eqb, both_ways}
-use native.Mathlib.Decide.{dec_le}
+use Rattle.std.proofs.Common.{◌≡◌, ℕ, zero, suc, ◌<◌, ◌≤◌, Bool, true, false, cond, eqb, ◌⊎◌, List, [], ◌∷◌, is_some, Some, None, sym, refl, ap, ◌∙◌, subst, inl, inr, arith}
+use Rattle.std.proofs.Math.Logic.{⊎_elim}
+use Rattle.std.proofs.lemmas.Bool.{eqb-true, eq-eqb, both_ways, cases_lt, cond_both, false_from_ne_true}
+use Rattle.std.proofs.lemmas.Option.{none-some}
 use Rattle.history.specs.Events.{Operation, Event, Events, History, openings}
 use Rattle.history.specs.Events.Operation.{opens, reads, writes, commits, abandons}
 use Rattle.history.specs.Events.Event.{by}
-use Rattle.history.specs.Projections.{projection, buffered, is_committed, is_active, WellFormed}
+use Rattle.history.specs.Projections.{projection, buffered, is_committed, is_active, end_place, WellFormed}
 use Rattle.history.specs.Precedence.{Extends, Occurs, Wrote, ReadGlobally, CommittedCell, Precedes}
 use Rattle.history.specs.Precedence.Extends.{here, later}
 use Rattle.history.specs.Precedence.Precedes.{real_time, committed_read, read_committed, committed_committed}
 use Rattle.history.proofs.ShortForm.{installs}
-
-pub none_some : {V : Type 0} {A : Type 0} (v : V) → ◌≡◌ {A = Option V} None (Some v) → A
-none_some v e = let z : ◌≡◌ {A = ℕ} 0 1 = cc in absurd (omega arith)
 
 pub occurs_here : {V : Type 0} (h : History V) (d : Operation V V ℕ) (y x : ℕ) → y ≡ x → Occurs (by y d ∷ h) x d h
 occurs_here h d y x e = subst (λ z. Extends (by y d ∷ h) (by z d ∷ h)) e here
@@ -48,7 +46,7 @@ module _ {V : Type 0} where
   wrote_step y x c h (abandons p) true v e ih q = wrote_later (by y (abandons p)) (ih v q)
 
   pub buffered_wrote : (h : History V) (x c : ℕ) (v : V) → buffered (projection h x) c ≡ Some v → Wrote h x c
-  buffered_wrote [] x c v q = none_some v q
+  buffered_wrote [] x c v q = absurd (none-some v q)
   buffered_wrote (by y d ∷ h) x c v q = wrote_step y x c h d (eqb y x) v refl (buffered_wrote h x c) q
 
   -- what was written is buffered
@@ -60,11 +58,7 @@ module _ {V : Type 0} where
   buffered_step c d s false q = q
   buffered_step c opens s true q = q
   buffered_step c (reads k w) s true q = q
-  buffered_step c (writes k w) s true q = go (eqb k c)
-    where
-      go : (b : Bool) → (u : V) × (cond b (Some w) (buffered s c) ≡ Some u)
-      go true = (w, refl)
-      go false = q
+  buffered_step c (writes k w) s true q = cond_both (eqb k c) (Some w) (buffered s c) (λ o. (u : V) × (o ≡ Some u)) (λ _. (w, refl)) (λ _. q)
   buffered_step c (commits p) s true q = q
   buffered_step c (abandons p) s true q = q
 
@@ -75,40 +69,37 @@ module _ {V : Type 0} where
 
   pub unbuffered_unwritten : (h : History V) (x c : ℕ) → buffered (projection h x) c ≡ None → Wrote h x c → ⊥
   unfolding IsBuffered
-  unbuffered_unwritten h x c q w = let k = buffered_when_written x c w.value w.before h w.occurs in none_some k.0 (sym q ∙ k.1)
+  unbuffered_unwritten h x c q w = let k = buffered_when_written x c w.value w.before h w.occurs in none-some k.0 (sym q ∙ k.1)
 
-  -- a job that has not opened has an empty projection
-  active_numbered : (h : History V) (y : ℕ) → ((x : ℕ) → openings h < x → projection h x ≡ []) → is_active (projection h y) ≡ true → (x : ℕ) → openings h < x → (y ≡ x → ⊥)
-  active_numbered h y fr o x l e = both_ways (is_active (projection h y)) (ap is_active (fr y (rw e l))) o
-
-  projection_other : (y x : ℕ) (h : History V) (d : Operation V V ℕ) → (y ≡ x → ⊥) → projection h x ≡ [] → projection (by y d ∷ h) x ≡ []
-  projection_other y x h d n q = rw (ne_eqb y x n) q
-
-  pub unopened_projection : (h : History V) → WellFormed h → (x : ℕ) → openings h < x → projection h x ≡ []
-  unopened_projection [] wf x l = refl
-  unopened_projection (by y opens ∷ h) wf x l = projection_other y x h opens (λ e. omega arith) (unopened_projection h wf.1 x (omega arith))
-  unopened_projection (by y (reads c v) ∷ h) wf x l = projection_other y x h (reads c v) (active_numbered h y (unopened_projection h wf.1) wf.0 x l) (unopened_projection h wf.1 x l)
-  unopened_projection (by y (writes c v) ∷ h) wf x l = projection_other y x h (writes c v) (active_numbered h y (unopened_projection h wf.1) wf.0 x l) (unopened_projection h wf.1 x l)
-  unopened_projection (by y (commits c) ∷ h) wf x l = projection_other y x h (commits c) (active_numbered h y (unopened_projection h wf.1) wf.0 x l) (unopened_projection h wf.1 x l)
-  unopened_projection (by y (abandons c) ∷ h) wf x l = projection_other y x h (abandons c) (active_numbered h y (unopened_projection h wf.1) wf.0 x l) (unopened_projection h wf.1 x l)
-
-  -- an active job has not committed
   pub well_formed_tail : (a : Event V V ℕ) (h : History V) → WellFormed (a ∷ h) → WellFormed h
   well_formed_tail (by x o) h wf = wf.1
 
-  active_step : (y x : ℕ) (h : History V) (d : Operation V V ℕ) (b : Bool) → eqb y x ≡ b → WellFormed (by y d ∷ h) →
-      (is_active (projection h x) ≡ true → is_committed (projection h x) ≡ false) → is_active (cond b (d ∷ projection h x) (projection h x)) ≡ true →
-      is_committed (cond b (d ∷ projection h x) (projection h x)) ≡ false
-  active_step y x h d false e wf ih o = ih o
-  active_step y x h opens true e wf ih o = ap is_committed (unopened_projection h wf.1 x (omega (arith, eqb-true y x e)))
-  active_step y x h (reads c v) true e wf ih o = ih o
-  active_step y x h (writes c v) true e wf ih o = ih o
-  active_step y x h (commits c) true e wf ih o = sym o
-  active_step y x h (abandons c) true e wf ih o = absurd (both_ways false refl o)
+  -- a number that no job has: 0, or above the count of openings
+  abbrev Unnumbered : History V → ℕ → Type 0
+  Unnumbered h x = 1 ≤ x → openings h < x
+
+  unnumbered_projection : (h : History V) → WellFormed h → (x : ℕ) → Unnumbered h x → projection h x ≡ []
+  unnumbered_projection [] wf x l = refl
+  unnumbered_projection (by y d ∷ h) wf x l = let ih = unnumbered_projection h (well_formed_tail (by y d) h wf) in grind (arith, l, wf, ih x, ih y, eqb-true y x)
+
+  pub unopened_projection : (h : History V) → WellFormed h → (x : ℕ) → openings h < x → projection h x ≡ []
+  unopened_projection h wf x l = unnumbered_projection h wf x (λ _. l)
+
+  pub projection_zero : (h : History V) → WellFormed h → projection h 0 ≡ []
+  projection_zero h wf = unnumbered_projection h wf 0 (λ l. absurd (omega arith))
+
+  -- an active job has no place
+  pub active_unplaced : (h : History V) → WellFormed h → (x : ℕ) → is_active (projection h x) ≡ true → end_place (projection h x) ≡ None
+  active_unplaced [] wf x o = refl
+  active_unplaced (by y d ∷ h) wf x o = let ih = active_unplaced h (well_formed_tail (by y d) h wf) x in grind (arith, o, ih, wf, unopened_projection h wf.1 x, eqb-true y x)
+
+  -- a committed job has a place
+  pub committed_ends : (s : List (Operation V V ℕ)) → is_committed s ≡ true → is_some (end_place s) ≡ true
+  committed_ends [] e = e
+  committed_ends (o ∷ s) e = let ih = committed_ends s in grind (arith, ih, e)
 
   pub active_uncommitted : (h : History V) → WellFormed h → (x : ℕ) → is_active (projection h x) ≡ true → is_committed (projection h x) ≡ false
-  active_uncommitted [] wf x o = refl
-  active_uncommitted (by y d ∷ h) wf x o = active_step y x h d (eqb y x) refl wf (active_uncommitted h (well_formed_tail (by y d) h wf) x) o
+  active_uncommitted h wf x o = false_from_ne_true (is_committed (projection h x)) (λ q. both_ways (is_some (end_place (projection h x))) (ap is_some (active_unplaced h wf x o)) (committed_ends (projection h x) q))
 
   -- what a job installs it has committed
   installs_step : (y x c : ℕ) (h : History V) (d : Operation V V ℕ) (b : Bool) (v : V) → eqb y x ≡ b → WellFormed (by y d ∷ h) →
@@ -117,12 +108,12 @@ module _ {V : Type 0} where
   installs_step y x c h d false v e wf ih q = committed_later (by y d) (ih v q)
   installs_step y x c h opens true v e wf ih q = committed_later (by y opens) (ih v q)
   installs_step y x c h (reads k w) true v e wf ih q = committed_later (by y (reads k w)) (ih v q)
-  installs_step y x c h (writes k w) true v e wf ih q = none_some v (rw (active_uncommitted h wf.1 x (rw (eqb-true y x e) at wf.0)) at q)
+  installs_step y x c h (writes k w) true v e wf ih q = absurd (none-some v (rw (active_uncommitted h wf.1 x (rw (eqb-true y x e) at wf.0)) at q))
   installs_step y x c h (commits p) true v e wf ih q = record { place = p; before = h; occurs = occurs_here h (commits p) y x (eqb-true y x e); wrote = buffered_wrote h x c v q }
   installs_step y x c h (abandons p) true v e wf ih q = committed_later (by y (abandons p)) (ih v q)
 
   pub installed_committed : (h : History V) → WellFormed h → (x c : ℕ) (v : V) → installs (projection h x) c ≡ Some v → CommittedCell h x c
-  installed_committed [] wf x c v q = none_some v q
+  installed_committed [] wf x c v q = absurd (none-some v q)
   installed_committed (by y d ∷ h) wf x c v q = installs_step y x c h d (eqb y x) v refl wf (installed_committed h (well_formed_tail (by y d) h wf) x c) q
 
   -- a job's first-hand reads
@@ -154,25 +145,7 @@ module _ {V : Type 0} where
   first_hand_read [] x c f = absurd f
   first_hand_read (by y d ∷ h) x c f = first_hand_step y x c h d (eqb y x) refl (first_hand_read h x c) f
 
-  active_not_zero : (h : History V) (y : ℕ) → projection h 0 ≡ [] → is_active (projection h y) ≡ true → y ≡ 0 → ⊥
-  active_not_zero h y z o e = both_ways (is_active (projection h y)) (rw e (ap is_active z)) o
-
-  pub projection_zero : (h : History V) → WellFormed h → projection h 0 ≡ []
-  projection_zero [] wf = refl
-  projection_zero (by y opens ∷ h) wf = projection_other y 0 h opens (λ e. omega arith) (projection_zero h wf.1)
-  projection_zero (by y (reads c v) ∷ h) wf = projection_other y 0 h (reads c v) (active_not_zero h y (projection_zero h wf.1) wf.0) (projection_zero h wf.1)
-  projection_zero (by y (writes c v) ∷ h) wf = projection_other y 0 h (writes c v) (active_not_zero h y (projection_zero h wf.1) wf.0) (projection_zero h wf.1)
-  projection_zero (by y (commits p) ∷ h) wf = projection_other y 0 h (commits p) (active_not_zero h y (projection_zero h wf.1) wf.0) (projection_zero h wf.1)
-  projection_zero (by y (abandons p) ∷ h) wf = projection_other y 0 h (abandons p) (active_not_zero h y (projection_zero h wf.1) wf.0) (projection_zero h wf.1)
-
-  -- a committed job has a number from 1 up to the count of openings
-  pub committed_numbered : (h : History V) → WellFormed h → (x : ℕ) → is_committed (projection h x) ≡ true → (1 ≤ x) × (x ≤ openings h)
-  committed_numbered h wf x q = (low x q, high (dec_le x (openings h)))
-    where
-      low : (x : ℕ) → is_committed (projection h x) ≡ true → 1 ≤ x
-      low zero q = absurd (both_ways (is_committed (projection h 0)) (ap is_committed (projection_zero h wf)) q)
-      low (suc x) q = omega arith
-
-      high : Dec (x ≤ openings h) → x ≤ openings h
-      high (yes l) = l
-      high (no n) = absurd (both_ways (is_committed (projection h x)) (ap is_committed (unopened_projection h wf x (omega arith))) q)
+  -- a job that has done something has a number from 1 up to the count of openings
+  pub numbered : (h : History V) → WellFormed h → (x : ℕ) → (projection h x ≡ [] → ⊥) → (1 ≤ x) × (x ≤ openings h)
+  numbered h wf zero n = absurd (n (projection_zero h wf))
+  numbered h wf (suc x) n = (omega arith, ⊎_elim (λ l. absurd (n (unopened_projection h wf (suc x) l))) (λ l. l) (cases_lt (openings h) (suc x)))

@@ -1,7 +1,7 @@
 -- Bounds that move as they should agree with the history at every moment, so that a run is opaque.
 use Rattle.std.proofs.Common.{ℕ, suc, ◌≤◌, cond, List, [], ◌∷◌, arith}
+use Rattle.std.proofs.lemmas.Option.{none-some}
 use Rattle.history.specs.Events.{Operation, History, is_opening, openings, open_job, by_jobs}
-use Rattle.history.specs.Events.Operation.{opens, reads, writes, commits, abandons}
 use Rattle.history.specs.Events.Event.{by}
 use Rattle.history.specs.Projections.{WellFormed}
 use Rattle.history.specs.Values.{ReadsCurrent}
@@ -10,14 +10,14 @@ use Rattle.history.specs.Precedence.Extends.{here, later}
 use Rattle.history.specs.Precedence.Precedes.{real_time, committed_read, read_committed, committed_committed}
 use Rattle.history.specs.SerialExecution.{SeriallyExplained, Opaque}
 use Rattle.history.specs.WellMade.{WellMade}
-use Rattle.history.specs.Bounds.{Bounds, Tracked, bounds_by_job, CrewMoves, CrewRun}
-use Rattle.history.proofs.Moments.{none_some, well_formed_tail}
+use Rattle.history.specs.Bounds.{Bounds, Tracked, bounds_by_job, CrewRun}
+use Rattle.history.proofs.Moments.{well_formed_tail}
 use Rattle.history.proofs.Ordering.{places_give_order}
 use Rattle.history.proofs.JobBounds.{BoundsRun}
 use Rattle.history.proofs.JobBounds.BoundsRun.{starts, goes_on}
 use Rattle.history.proofs.Tracking.{tracked_step}
 use Rattle.history.proofs.Crews.{well_made_tail, well_formed}
-use Rattle.history.proofs.Moving.{moves_read, moves_write, moves_commit, moves_abandon, moves_open}
+use Rattle.history.proofs.Moving.{moves}
 
 extends_nothing : {A : Type 0} {a : A} {g : List A} → Extends [] (a ∷ g) → ⊥
 extends_nothing s = elim s [ ]
@@ -31,23 +31,15 @@ nothing_precedes (committed_committed s n e) = extends_nothing s
 pub tracked : {V : Type 0} (top : ℕ) {h : History V} {b : Bounds} → 2 ≤ top → WellFormed h → BoundsRun top h b → Tracked h b
 tracked top t wf starts = record {
   placed = record { apart = λ x y ne k. absurd (nothing_precedes k); room = λ x e. omega arith };
-  below_highest = λ x p e. none_some p e;
-  below_written = λ x c p k e. none_some p e;
-  below_read = λ x c p k e. none_some p e;
+  below_highest = λ x p e. absurd (none-some p e);
+  below_written = λ x c p k e. absurd (none-some p e);
+  below_read = λ x c p k e. absurd (none-some p e);
 }
 tracked top t wf (goes_on {h = h} {b = b} {x = x} {o = d} {b' = b'} r m) = tracked_step h b x d b' wf (tracked top t (well_formed_tail (by x d) h wf) r) m
 
-bounds_run_step : {V : Type 0} (top : ℕ) (run : History V) (b : Bounds) (w : ℕ) (d : Operation V V ℕ) (b' : Bounds) → 2 ≤ top → WellMade (by w d ∷ run) →
-    CrewMoves top run b w d b' → BoundsRun top (by_jobs run) (bounds_by_job top run b) → BoundsRun top (by_jobs (by w d ∷ run)) (bounds_by_job top (by w d ∷ run) b')
-bounds_run_step top run b w opens b' t wm m r = BoundsRun.goes_on r (moves_open top run b w b' t wm m)
-bounds_run_step top run b w (reads c v) b' t wm m r = BoundsRun.goes_on r (moves_read top run b w b' c v t wm m)
-bounds_run_step top run b w (writes c v) b' t wm m r = BoundsRun.goes_on r (moves_write top run b w b' c v t wm m)
-bounds_run_step top run b w (commits p) b' t wm m r = BoundsRun.goes_on r (moves_commit top run b w b' p t wm m)
-bounds_run_step top run b w (abandons p) b' t wm m r = BoundsRun.goes_on r (moves_abandon top run b w b' p t wm m)
-
 pub bounds_run : {V : Type 0} (top : ℕ) {run : History V} {b : Bounds} → CrewRun top run b → 2 ≤ top → WellMade run → BoundsRun top (by_jobs run) (bounds_by_job top run b)
 bounds_run top (CrewRun.starts l u) t wm = BoundsRun.starts
-bounds_run top (CrewRun.goes_on {run = run} {b = b} {w = w} {o = d} {b' = b'} r m) t wm = bounds_run_step top run b w d b' t wm m (bounds_run top r t (well_made_tail (by w d) run wm))
+bounds_run top (CrewRun.goes_on {run = run} {b = b} {w = w} {o = d} {b' = b'} r m) t wm = BoundsRun.goes_on (bounds_run top r t (well_made_tail (by w d) run wm)) (moves top run b w b' d t wm m)
 
 pub bounds_agree : {V : Type 0} (top : ℕ) (run : History V) (b : Bounds) → 2 ≤ top → WellMade run → CrewRun top run b → Tracked (by_jobs run) (bounds_by_job top run b)
 bounds_agree top run b t wm r = tracked top t (well_formed run wm) (bounds_run top r t wm)
@@ -71,11 +63,7 @@ well_made_moment here wm = wm
 well_made_moment (later {a = a} {h = h} e) wm = well_made_moment e (well_made_tail a h wm)
 
 reads_current_tail : {V : Type 0} (first : ℕ → V) (x : ℕ) (o : Operation V V ℕ) (h : History V) → ReadsCurrent first (by x o ∷ h) → ReadsCurrent first h
-reads_current_tail first x opens h rc = rc
-reads_current_tail first x (reads c v) h rc = rc.1
-reads_current_tail first x (writes c v) h rc = rc
-reads_current_tail first x (commits p) h rc = rc
-reads_current_tail first x (abandons p) h rc = rc
+reads_current_tail first x o h rc = grind (arith, rc)
 
 reads_current_moment : {V : Type 0} (first : ℕ → V) {run moment : History V} → Extends run moment → ReadsCurrent first (by_jobs run) → ReadsCurrent first (by_jobs moment)
 reads_current_moment first here rc = rc

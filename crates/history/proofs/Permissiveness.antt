@@ -1,15 +1,15 @@
 -- Permissiveness, both ways: the positions in a serialization order are accepted as places, and what is accepted has a serialization order.
-use Rattle.std.proofs.Common.{◌≡◌, ℕ, suc, ◌+◌, ◌<◌, ◌≤◌, ◌⊎◌, ◌↔◌, List, [], ◌∷◌, subst, inl, inr, arith}
-use Rattle.history.specs.Events.{Operation, Events, openings, open_job, by_jobs}
-use Rattle.history.specs.Events.Operation.{opens, reads, writes, commits, abandons}
+use Rattle.std.proofs.Common.{◌≡◌, ℕ, suc, cond, ◌+◌, ◌<◌, ◌≤◌, ◌↔◌, List, [], ◌∷◌, subst, arith}
+use Rattle.std.proofs.Math.Logic.{⊎_elim}
+use Rattle.history.specs.Events.{Operation, Events, is_opening, openings, open_job, by_jobs}
 use Rattle.history.specs.Events.Event.{by}
-use Rattle.history.specs.Precedence.{Extends, Occurs, Precedes, SerializationOrder}
+use Rattle.history.specs.Precedence.{Extends, Precedes, SerializationOrder}
 use Rattle.history.specs.Precedence.Extends.{here, later}
 use Rattle.history.specs.Precedence.Precedes.{real_time, committed_read, read_committed, committed_committed}
 use Rattle.history.specs.WellMade.{WellMade, Calls, WellMadeList}
 use Rattle.history.specs.Acceptance.{AcceptedAt, position, positions}
 use Rattle.history.proofs.Rows.{extends_trans}
-use Rattle.history.proofs.Crews.{openings_by_job, open_job_numbered}
+use Rattle.history.proofs.Crews.{openings_by_job, openings_tail, open_job_numbered}
 use Rattle.history.proofs.Viewing.{views_opaque}
 use Rattle.history.proofs.Alike.{Alike, by_jobs_alike, order_alike, calls_alike}
 use Rattle.history.proofs.Positions.{position_rises, position_low, row_length}
@@ -26,22 +26,15 @@ module _ {V R P : Type 0} where
 
   occurs_numbered : (cs : Events V R P) → WellMade cs → (x : ℕ) {d : Operation V R P} {g : Events V R P} → Extends (by_jobs cs) (by x d ∷ g) → Numbered cs x
   occurs_numbered [] wm x s = elim s [ ]
-  occurs_numbered (by w opens ∷ cs) wm x s = last_or_earlier (suc (openings cs)) (suc (openings cs)) x (omega arith, omega arith) (λ t. let k = occurs_numbered cs wm.1 x t in (k.0, omega arith)) s
-  occurs_numbered (by w (reads c v) ∷ cs) wm x s = last_or_earlier (openings cs) (open_job cs w) x (wm.0, open_job_numbered cs w) (λ t. occurs_numbered cs wm.1 x t) s
-  occurs_numbered (by w (writes c v) ∷ cs) wm x s = last_or_earlier (openings cs) (open_job cs w) x (wm.0, open_job_numbered cs w) (λ t. occurs_numbered cs wm.1 x t) s
-  occurs_numbered (by w (commits p) ∷ cs) wm x s = last_or_earlier (openings cs) (open_job cs w) x (wm.0, open_job_numbered cs w) (λ t. occurs_numbered cs wm.1 x t) s
-  occurs_numbered (by w (abandons p) ∷ cs) wm x s = last_or_earlier (openings cs) (open_job cs w) x (wm.0, open_job_numbered cs w) (λ t. occurs_numbered cs wm.1 x t) s
+  occurs_numbered (by w o ∷ cs) wm x s = last_or_earlier (openings (by w o ∷ cs)) (cond (is_opening o) (suc (openings cs)) (open_job cs w)) x (grind (arith, wm, open_job_numbered cs w))
+      (λ t. let k = occurs_numbered cs wm.1 x t in (k.0, omega (arith, k.1, openings_tail w o cs))) s
 
   module _ (cs : Events V R P) (wm : WellMade cs) where
     both_numbered : {x y : ℕ} {d e : Operation V R P} {g k : Events V R P} → Extends (by_jobs cs) (by y d ∷ g) → Extends g (by x e ∷ k) → Numbered cs x × Numbered cs y
     both_numbered {x = x} {y = y} s t = (occurs_numbered cs wm x (extends_trans s (later t)), occurs_numbered cs wm y s)
 
     precedes_numbered : {x y : ℕ} → Precedes (by_jobs cs) x y → Numbered cs x × Numbered cs y
-    precedes_numbered {x = x} {y = y} (real_time {g = g} s e) = go e.occurs
-      where
-        go : Occurs g x (commits e.place) e.before ⊎ Occurs g x (abandons e.place) e.before → Numbered cs x × Numbered cs y
-        go (inl t) = both_numbered s t
-        go (inr t) = both_numbered s t
+    precedes_numbered (real_time s e) = ⊎_elim (both_numbered s) (both_numbered s) e.occurs
     precedes_numbered (committed_read s n e) = both_numbered s e.occurs
     precedes_numbered (read_committed s w e) = both_numbered s e.occurs
     precedes_numbered (committed_committed s w e) = both_numbered s e.occurs

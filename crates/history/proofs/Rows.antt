@@ -1,5 +1,6 @@
 -- Rows of jobs: their moments, who stands in them, and what it is to stand once.
 use Rattle.std.proofs.Common.{◌≡◌, ℕ, ◌≤◌, ◌⊎◌, List, [], ◌∷◌, length, refl, inl, inr, arith}
+use Rattle.std.proofs.Math.Logic.{⊎_elim}
 use Rattle.history.specs.Precedence.{Extends, In, StandsBefore, Once}
 use Rattle.history.specs.Precedence.Extends.{here, later}
 
@@ -18,15 +19,8 @@ extends_total (later s) (later t) = extends_total s t
 
 -- of two jobs only one stands before the other
 pub one_way : {x y : ℕ} (row : List ℕ) → Once row → StandsBefore row x y → StandsBefore row y x → ⊥
-one_way {x} {y} row once (ea, s, (eb, i)) (ec, t, (ed, j)) = go (extends_total s t)
-  where
-    go : Extends (y ∷ ea) (x ∷ ec) ⊎ Extends (x ∷ ec) (y ∷ ea) → ⊥
-    go (inl u) = once y (ea, s, (ed, extends_trans (extends_tail u) j))
-    go (inr u) = once x (ec, t, (eb, extends_trans (extends_tail u) i))
-
-pub extends_cases : {z y : ℕ} {ea r : List ℕ} → Extends (y ∷ r) (z ∷ ea) → (z ≡ y) ⊎ In z r
-extends_cases here = inl refl
-extends_cases {ea = ea} (later s) = inr (ea, s)
+one_way {x} {y} row once (ea, s, (eb, i)) (ec, t, (ed, j)) =
+    ⊎_elim (λ u. once y (ea, s, (ed, extends_trans (extends_tail u) j))) (λ u. once x (ec, t, (eb, extends_trans (extends_tail u) i))) (extends_total s t)
 
 pub extends_length : {A : Type 0} {h g : List A} → Extends h g → length g ≤ length h
 extends_length here = omega arith
@@ -36,10 +30,14 @@ pub in_later : (x y : ℕ) (r : List ℕ) → In x r → In x (y ∷ r)
 in_later x y r (ea, s) = (ea, later s)
 
 pub in_cases : (z y : ℕ) (r : List ℕ) → In z (y ∷ r) → (z ≡ y) ⊎ In z r
-in_cases z y r (ea, s) = extends_cases s
+in_cases z y r (_, here) = inl refl
+in_cases z y r (ea, later s) = inr (ea, s)
 
 pub in_nil : (z : ℕ) → In z [] → ⊥
 in_nil z (ea, s) = elim s [ ]
+
+pub in_one : (z y : ℕ) → In z (y ∷ []) → z ≡ y
+in_one z y i = ⊎_elim (λ e. e) (λ j. absurd (in_nil z j)) (in_cases z y [] i)
 
 pub in_head : (z y : ℕ) (r : List ℕ) → z ≡ y → In z (y ∷ r)
 in_head z y r e = (r, rw e here)

@@ -1,41 +1,30 @@
 -- One more call that moves the bounds as it should keeps them in agreement with the history.
-use Rattle.std.proofs.Common.{◌≡◌, ℕ, ◌<◌, ◌≤◌, Bool, true, false, cond, eqb, ◌⊎◌, List, [], ◌∷◌, Some, None, Option, sym, refl, ap, ◌∙◌, subst, inl, inr, arith}
-use Rattle.std.proofs.lemmas.Bool.{eqb-true, eq-eqb, ne_eqb, both_ways}
+use Rattle.std.proofs.Common.{◌≡◌, ℕ, ◌<◌, ◌≤◌, Bool, true, cond, eqb, ◌⊎◌, List, ◌∷◌, Some, None, Option, sym, refl, ◌∙◌, subst, inl, inr, arith}
+use Rattle.std.proofs.lemmas.Bool.{eqb-true, eq-eqb, ne_eqb, cond_both}
+use Rattle.std.specs.Option.{option_or}
+use Rattle.std.proofs.Math.Logic.{⊎_elim}
+use Rattle.std.proofs.lemmas.Option.{none-some}
 use Rattle.history.specs.Events.{Operation, Event, History, ends_at}
 use Rattle.history.specs.Events.Operation.{opens, reads, writes, commits, abandons}
 use Rattle.history.specs.Events.Event.{by}
 use Rattle.history.specs.Projections.{projection, is_active, end_place, WellFormed}
-use Rattle.history.specs.Precedence.{Extends, Occurs, Wrote, ReadGlobally, CommittedCell, Ended, Precedes}
+use Rattle.history.specs.Precedence.{Extends, Wrote, ReadGlobally, CommittedCell, Ended, Precedes}
 use Rattle.history.specs.Precedence.Extends.{here, later}
 use Rattle.history.specs.Precedence.Precedes.{real_time, committed_read, read_committed, committed_committed}
 use Rattle.history.specs.Bounds.{PlacedApart, Bounds, Tracked}
-use Rattle.history.proofs.Moments.{none_some, unopened_projection, well_formed_tail}
+use Rattle.history.proofs.Moments.{active_unplaced, unopened_projection, well_formed_tail}
 use Rattle.history.proofs.JobBounds.{ClosesIn, SeesTo, Moves}
 
 -- bounds that close in keep jobs apart
 apart_later : (o p o' p' : Option ℕ) (lx ux ly uy lx' ux' ly' uy' : ℕ) → ClosesIn o lx ux o' lx' ux' → ClosesIn p ly uy p' ly' uy' → PlacedApart o lx ux p ly uy → PlacedApart o' lx' ux' p' ly' uy'
-apart_later (Some a) (Some b) (Some a') (Some b') lx ux ly uy lx' ux' ly' uy' m n k = omega arith
-apart_later (Some a) (Some b) (Some a') None lx ux ly uy lx' ux' ly' uy' m n k = absurd n
-apart_later (Some a) (Some b) None p' lx ux ly uy lx' ux' ly' uy' m n k = absurd m
-apart_later (Some a) None (Some a') (Some b') lx ux ly uy lx' ux' ly' uy' m n k = omega arith
-apart_later (Some a) None (Some a') None lx ux ly uy lx' ux' ly' uy' m n k = omega arith
-apart_later (Some a) None None p' lx ux ly uy lx' ux' ly' uy' m n k = absurd m
-apart_later None (Some b) (Some a') (Some b') lx ux ly uy lx' ux' ly' uy' m n k = omega arith
-apart_later None (Some b) (Some a') None lx ux ly uy lx' ux' ly' uy' m n k = absurd n
-apart_later None (Some b) None (Some b') lx ux ly uy lx' ux' ly' uy' m n k = omega arith
-apart_later None (Some b) None None lx ux ly uy lx' ux' ly' uy' m n k = absurd n
-apart_later None None o' p' lx ux ly uy lx' ux' ly' uy' m n k = absurd k
+apart_later o p o' p' lx ux ly uy lx' ux' ly' uy' m n k = grind (arith, m, n, k)
 
 -- a place stays
 closes_back : (o o' : Option ℕ) (l u l' u' : ℕ) → ClosesIn o l u o' l' u' → (k p : ℕ) → o ≡ Some k → o' ≡ Some p → o ≡ Some p
-closes_back (Some a) (Some b) l u l' u' m k p e f = cc
-closes_back (Some a) None l u l' u' m k p e f = absurd m
-closes_back None o' l u l' u' m k p e f = none_some k e
+closes_back o o' l u l' u' m k p e f = grind (arith, m, e, f)
 
 closes_later : (o o' : Option ℕ) (l u l' u' : ℕ) → ClosesIn o l u o' l' u' → (p : ℕ) → o ≡ Some p → o' ≡ Some p
-closes_later (Some a) (Some b) l u l' u' m p e = cc
-closes_later (Some a) None l u l' u' m p e = absurd m
-closes_later None o' l u l' u' m p e = none_some p e
+closes_later o o' l u l' u' m p e = grind (arith, m, e)
 
 apart_some_none : (o r : Option ℕ) (lx ux ly uy p : ℕ) → o ≡ Some p → r ≡ None → p ≤ ly → PlacedApart o lx ux r ly uy
 apart_some_none o r lx ux ly uy p e f k = rw (e, f) k
@@ -96,78 +85,37 @@ module _ {V : Type 0} where
   abbrev pub Ends : List (Operation V V ℕ) → Type 0
   Ends s = (p : ℕ) × (end_place s ≡ Some p)
 
+  ends_more : (o : Option ℕ) (s : List (Operation V V ℕ)) → Ends s → (p : ℕ) × (option_or o (end_place s) ≡ Some p)
+  ends_more (Some p) s q = (p, refl)
+  ends_more None s q = q
+
   ends_step : (d : Operation V V ℕ) (s : List (Operation V V ℕ)) (b : Bool) → Ends s → Ends (cond b (d ∷ s) s)
-  ends_step d s false q = q
-  ends_step opens s true q = q
-  ends_step (reads k w) s true q = q
-  ends_step (writes k w) s true q = q
-  ends_step (commits p) s true q = (p, refl)
-  ends_step (abandons p) s true q = (p, refl)
+  ends_step d s b q = cond_both b (d ∷ s) s Ends (λ _. ends_more (ends_at d) s q) (λ _. q)
 
-  place_when_ended : (x p : ℕ) (g h : History V) → Extends h (by x (commits p) ∷ g) → Ends (projection h x)
-  place_when_ended x p g h here = rw (eq-eqb x x refl) (p, refl)
-  place_when_ended x p g _ (later {a = by y d} {h = h} s) = ends_step d (projection h x) (eqb y x) (place_when_ended x p g h s)
-
-  place_when_ended' : (x p : ℕ) (g h : History V) → Extends h (by x (abandons p) ∷ g) → Ends (projection h x)
-  place_when_ended' x p g h here = rw (eq-eqb x x refl) (p, refl)
-  place_when_ended' x p g _ (later {a = by y d} {h = h} s) = ends_step d (projection h x) (eqb y x) (place_when_ended' x p g h s)
+  place_when_ended : (x : ℕ) (d : Operation V V ℕ) (g h : History V) → Ends (d ∷ projection g x) → Extends h (by x d ∷ g) → Ends (projection h x)
+  place_when_ended x d g h q here = rw (eq-eqb x x refl) q
+  place_when_ended x d g _ q (later {a = by y e} {h = h} s) = ends_step e (projection h x) (eqb y x) (place_when_ended x d g h q s)
 
   pub ended_place : (h : History V) (x : ℕ) → Ended h x → Ends (projection h x)
-  ended_place h x e = go e.occurs
-    where
-      go : Occurs h x (commits e.place) e.before ⊎ Occurs h x (abandons e.place) e.before → Ends (projection h x)
-      go (inl s) = place_when_ended x e.place e.before h s
-      go (inr s) = place_when_ended' x e.place e.before h s
+  ended_place h x e = ⊎_elim (place_when_ended x (commits e.place) e.before h (e.place, refl)) (place_when_ended x (abandons e.place) e.before h (e.place, refl)) e.occurs
 
   pub committed_place : (h : History V) (x c : ℕ) → CommittedCell h x c → Ends (projection h x)
-  committed_place h x c k = place_when_ended x k.place k.before h k.occurs
-
-  -- an active job has no place
-  active_unplaced_step : (y x : ℕ) (h : History V) (d : Operation V V ℕ) (b : Bool) → eqb y x ≡ b → WellFormed (by y d ∷ h) →
-      (is_active (projection h x) ≡ true → end_place (projection h x) ≡ None) → is_active (cond b (d ∷ projection h x) (projection h x)) ≡ true →
-      end_place (cond b (d ∷ projection h x) (projection h x)) ≡ None
-  active_unplaced_step y x h d false e wf ih o = ih o
-  active_unplaced_step y x h opens true e wf ih o = ap end_place (unopened_projection h wf.1 x (omega (arith, eqb-true y x e)))
-  active_unplaced_step y x h (reads c v) true e wf ih o = ih o
-  active_unplaced_step y x h (writes c v) true e wf ih o = ih o
-  active_unplaced_step y x h (commits c) true e wf ih o = absurd (both_ways false refl o)
-  active_unplaced_step y x h (abandons c) true e wf ih o = absurd (both_ways false refl o)
-
-  pub active_unplaced : (h : History V) → WellFormed h → (x : ℕ) → is_active (projection h x) ≡ true → end_place (projection h x) ≡ None
-  active_unplaced [] wf x o = refl
-  active_unplaced (by y d ∷ h) wf x o = active_unplaced_step y x h d (eqb y x) refl wf (active_unplaced h (well_formed_tail (by y d) h wf) x) o
+  committed_place h x c k = place_when_ended x (commits k.place) k.before h (k.place, refl) k.occurs
 
   -- who acts has no place yet
   pub acting_unplaced : (h : History V) (x : ℕ) (d : Operation V V ℕ) → WellFormed (by x d ∷ h) → end_place (projection h x) ≡ None
-  acting_unplaced h x opens wf = ap end_place (unopened_projection h wf.1 x (omega arith))
-  acting_unplaced h x (reads c v) wf = active_unplaced h wf.1 x wf.0
-  acting_unplaced h x (writes c v) wf = active_unplaced h wf.1 x wf.0
-  acting_unplaced h x (commits p) wf = active_unplaced h wf.1 x wf.0
-  acting_unplaced h x (abandons p) wf = active_unplaced h wf.1 x wf.0
+  acting_unplaced h x d wf = grind (arith, wf, unopened_projection h wf.1 x, active_unplaced h wf.1 x)
 
   -- whoever has a place since this event is the one whose event it is
   place_step : (h : History V) (x z p : ℕ) (d : Operation V V ℕ) (b : Bool) → eqb x z ≡ b → end_place (projection h z) ≡ None →
       end_place (cond b (d ∷ projection h z) (projection h z)) ≡ Some p → (x ≡ z) × (ends_at d ≡ Some p)
-  place_step h x z p d false e n q = none_some p (sym n ∙ q)
-  place_step h x z p opens true e n q = none_some p (sym n ∙ q)
-  place_step h x z p (reads c v) true e n q = none_some p (sym n ∙ q)
-  place_step h x z p (writes c v) true e n q = none_some p (sym n ∙ q)
-  place_step h x z p (commits k) true e n q = (eqb-true x z e, q)
-  place_step h x z p (abandons k) true e n q = (eqb-true x z e, q)
+  place_step h x z p d b e n q = grind (arith, e, n, q, eqb-true x z)
 
   pub commits_by : (h : History V) (x z c : ℕ) (d : Operation V V ℕ) → CommitsNow (by x d) h z c → x ≡ z
-  commits_by h x z c opens m = absurd m
-  commits_by h x z c (reads k v) m = absurd m
-  commits_by h x z c (writes k v) m = absurd m
-  commits_by h x z c (commits p) m = m.0
-  commits_by h x z c (abandons p) m = absurd m
+  commits_by h x z c d m = grind (arith, m)
 
   reads_by : (h : History V) (x z c : ℕ) (d : Operation V V ℕ) → ReadsNow (by x d) h z c → (x ≡ z) × (ends_at d ≡ None)
-  reads_by h x z c opens m = absurd m
-  reads_by h x z c (reads k v) m = (m.0, refl)
-  reads_by h x z c (writes k v) m = absurd m
-  reads_by h x z c (commits p) m = absurd m
-  reads_by h x z c (abandons p) m = absurd m
+  reads_by h x z c d m = grind (arith, m)
 
   -- the end place of the job that acts, and of another
   end_place_own : (h : History V) (x : ℕ) (d : Operation V V ℕ) → end_place (projection (by x d ∷ h) x) ≡ end_place (d ∷ projection h x)
@@ -186,11 +134,7 @@ module _ {V : Type 0} where
         go None e = inr (place_step h x z p d (eqb x z) refl e q)
 
     highest_now : (z p : ℕ) → end_place (projection (by x d ∷ h) z) ≡ Some p → p ≤ b'.highest
-    highest_now z p q = go (place_cases z p q)
-      where
-        go : (end_place (projection h z) ≡ Some p) ⊎ ((x ≡ z) × (ends_at d ≡ Some p)) → p ≤ b'.highest
-        go (inl e) = omega (arith, tracked_before.below_highest z p e, mv.highest_up)
-        go (inr e) = (mv.ends p e.1).0
+    highest_now z p q = ⊎_elim (λ e. omega (arith, tracked_before.below_highest z p e, mv.highest_up)) (λ e. (mv.ends p e.1).0) (place_cases z p q)
 
     written_now : (z c p : ℕ) → CommittedCell (by x d ∷ h) z c → end_place (projection (by x d ∷ h) z) ≡ Some p → p ≤ b'.written c
     written_now z c p k q = go (place_cases z p q) (committed_cases z c (by x d) h k)
@@ -204,17 +148,17 @@ module _ {V : Type 0} where
 
         go : (end_place (projection h z) ≡ Some p) ⊎ ((x ≡ z) × (ends_at d ≡ Some p)) → CommitsNow (by x d) h z c ⊎ CommittedCell h z c → p ≤ b'.written c
         go (inl e) (inr m) = omega (arith, tracked_before.below_written z c p m e, mv.written_up c)
-        go (inl e) (inl m) = none_some p (sym (acting_unplaced h x d wf) ∙ rw (commits_by h x z c d m) e)
+        go (inl e) (inl m) = absurd (none-some p (sym (acting_unplaced h x d wf) ∙ rw (commits_by h x z c d m) e))
         go (inr e) (inl m) = fresh_commit d e.1 m mv.sees_to
-        go (inr e) (inr m) = let k = committed_place h z c m in none_some k.0 (sym (acting_unplaced h x d wf) ∙ (rw e.0 k.1))
+        go (inr e) (inr m) = let k = committed_place h z c m in absurd (none-some k.0 (sym (acting_unplaced h x d wf) ∙ (rw e.0 k.1)))
 
     read_now : (z c p : ℕ) → ReadGlobally (by x d ∷ h) z c → end_place (projection (by x d ∷ h) z) ≡ Some p → p ≤ b'.read c
     read_now z c p k q = go (place_cases z p q) (read_cases z c (by x d) h k)
       where
         go : (end_place (projection h z) ≡ Some p) ⊎ ((x ≡ z) × (ends_at d ≡ Some p)) → ReadsNow (by x d) h z c ⊎ ReadGlobally h z c → p ≤ b'.read c
         go (inl e) (inr m) = omega (arith, tracked_before.below_read z c p m e, mv.read_up c)
-        go (inl e) (inl m) = none_some p (sym (acting_unplaced h x d wf) ∙ rw (reads_by h x z c d m).0 e)
-        go (inr e) (inl m) = none_some p (sym (reads_by h x z c d m).1 ∙ e.1)
+        go (inl e) (inl m) = absurd (none-some p (sym (acting_unplaced h x d wf) ∙ rw (reads_by h x z c d m).0 e))
+        go (inr e) (inl m) = absurd (none-some p (sym (reads_by h x z c d m).1 ∙ e.1))
         go (inr e) (inr m) = (mv.ends p e.1).1 c (rw e.0 m)
 
     abbrev ApartNow : ℕ → ℕ → Type 0
@@ -251,33 +195,27 @@ module _ {V : Type 0} where
           apart_none_some _ _ (b'.low y) (b'.high y) (b'.low x) (b'.high x) p (end_place_other h x y (commits p) (λ q. ne (sym q ∙ e)) ∙ f)
           (end_place_own h x (commits p)) ((mv.sees_to c w').3 y (λ q. ne (q ∙ e)) m f)
       go (inr m) (Some q) f = had_some h b x (commits p) b' wf tracked_before mv y q p f refl (omega (arith, tracked_before.below_written y c q m f, (mv.sees_to c w').0))
-      go (inr m) None f = let k = committed_place h y c m in none_some k.0 (sym f ∙ k.1)
+      go (inr m) None f = let k = committed_place h y c m in absurd (none-some k.0 (sym f ∙ k.1))
   now_apart h b x (abandons p) b' wf tracked_before mv y z ne m = absurd m
 
   pub tracked_step : (h : History V) (b : Bounds) (x : ℕ) (d : Operation V V ℕ) (b' : Bounds) → WellFormed (by x d ∷ h) → Tracked h b → Moves h b x d b' → Tracked (by x d ∷ h) b'
   tracked_step h b x d b' wf tracked_before mv = record {
-    placed = record { apart = λ y z ne k. go y z ne (precedes_cases y z (by x d) h k); room = mv.room };
+    placed = record {
+      apart = λ y z ne k. ⊎_elim (now_apart h b x d b' wf tracked_before mv y z ne) (λ k.
+          apart_later (end_place (projection h y)) (end_place (projection h z)) (end_place (projection (by x d ∷ h) y)) (end_place (projection (by x d ∷ h) z)) (b.low y)
+          (b.high y) (b.low z) (b.high z) (b'.low y) (b'.high y) (b'.low z) (b'.high z) (mv.closes_in y) (mv.closes_in z)
+          (tracked_before.placed.apart y z ne k)) (precedes_cases y z (by x d) h k);
+      room = mv.room;
+    };
     below_highest = highest_now h b x d b' wf tracked_before mv;
     below_written = written_now h b x d b' wf tracked_before mv;
     below_read = read_now h b x d b' wf tracked_before mv;
   }
-    where
-      go : (y z : ℕ) → (y ≡ z → ⊥) → PrecedesNow (by x d) h y z ⊎ Precedes h y z → ApartNow h b x d b' wf tracked_before mv y z
-      go y z ne (inl k) = now_apart h b x d b' wf tracked_before mv y z ne k
-      go y z ne (inr k) =
-          apart_later (end_place (projection h y)) (end_place (projection h z)) (end_place (projection (by x d ∷ h) y)) (end_place (projection (by x d ∷ h) z)) (b.low y)
-          (b.high y) (b.low z) (b.high z) (b'.low y) (b'.high y) (b'.low z) (b'.high z) (mv.closes_in y) (mv.closes_in z)
-          (tracked_before.placed.apart y z ne k)
 
   -- a job that has read and has no place is open
   reader_step : (y x : ℕ) (d : Operation V V ℕ) (s : List (Operation V V ℕ)) (b : Bool) → (end_place s ≡ None → is_active s ≡ true) → end_place (cond b (d ∷ s) s) ≡ None →
       is_active (cond b (d ∷ s) s) ≡ true
-  reader_step y x d s false ih n = ih n
-  reader_step y x opens s true ih n = refl
-  reader_step y x (reads c v) s true ih n = ih n
-  reader_step y x (writes c v) s true ih n = ih n
-  reader_step y x (commits p) s true ih n = none_some p (sym n)
-  reader_step y x (abandons p) s true ih n = none_some p (sym n)
+  reader_step y x d s b ih n = grind (arith, ih, n)
 
   reader_occurs : (x c : ℕ) (v : V) (g h : History V) → Extends h (by x (reads c v) ∷ g) → WellFormed h → end_place (projection h x) ≡ None → is_active (projection h x) ≡ true
   reader_occurs x c v g h here wf n = rw (eq-eqb x x refl) wf.0

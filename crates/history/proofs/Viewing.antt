@@ -1,7 +1,9 @@
 -- A register that accepts calls as its view says moves its bounds as it should, and its view agrees with the run.
 use Rattle.std.proofs.Common.{◌≡◌, ℕ, zero, suc, ◌+◌, ◌<◌, ◌≤◌, min, max, Bool, true, false, cond, ◌&&◌, eqb, ◌⊎◌, List, [], ◌∷◌, Some, None, unwrap_or, sym, refl, ap, ◌∙◌, ap₂, inl, inr, arith}
-use Rattle.std.proofs.lemmas.Bool.{eqb-true, eqb-false, eq-eqb, ne_eqb, both_ways, and_from, or_left, or_right}
-use Rattle.history.specs.Events.{Operation, Event, History, openings, open_job, by_jobs}
+use Rattle.std.proofs.lemmas.Bool.{eqb-true, eqb-false, eq-eqb, ne_eqb, both_ways, and_from, or_left, or_right, cases_eq, cond_both, true_from_ne_false}
+use Rattle.std.proofs.Math.Logic.{⊎_elim}
+use Rattle.std.proofs.lemmas.Option.{none-some}
+use Rattle.history.specs.Events.{Operation, Event, History, ends_at, openings, open_job, by_jobs}
 use Rattle.history.specs.Events.Operation.{opens, reads, writes, commits, abandons}
 use Rattle.history.specs.Events.Event.{by}
 use Rattle.history.specs.Projections.{projection, buffered, is_active, end_place}
@@ -9,29 +11,24 @@ use Rattle.history.specs.Values.{committed_value, ReadsCurrent}
 use Rattle.history.specs.Precedence.{Wrote, ReadGlobally}
 use Rattle.history.specs.SerialExecution.{Opaque}
 use Rattle.history.specs.WellMade.{WellMade}
-use Rattle.history.specs.Bounds.{CrewMoves, CrewRun}
-use Rattle.history.specs.Views.{RegisterView, conflicts, Accepts, updated, view_after, ViewRun, bounds_of, ViewAgrees}
+use Rattle.history.specs.Bounds.{Bounds, Narrows, OwnBounds, CrewMoves, CrewRun}
+use Rattle.history.specs.Views.{RegisterView, conflicts, low_after_read, Accepts, updated, view_after, ViewRun, bounds_of, ViewAgrees}
 use Rattle.history.specs.Views.ViewRun.{starts, goes_on}
-use Rattle.history.proofs.Moments.{none_some, buffered_wrote, unbuffered_unwritten, unopened_projection}
+use Rattle.history.proofs.Moments.{buffered_wrote, unbuffered_unwritten, unopened_projection}
 use Rattle.history.proofs.Tracking.{read_cases, reader_active}
 use Rattle.history.proofs.Crews.{openings_by_job, open_job_numbered, one_crew, well_formed}
 use Rattle.history.proofs.Opacity.{bounds_agree, bounds_opaque}
 
-updated_at : {A : Type 0} (f : ℕ → A) (k : ℕ) (v : A) → updated f k v k ≡ v
-updated_at f k v = rw (eq-eqb k k refl)
-
-updated_other : {A : Type 0} (f : ℕ → A) (k j : ℕ) (v : A) → (j ≡ k → ⊥) → updated f k v j ≡ f j
-updated_other f k j v n = rw (ne_eqb k j (λ e. n (sym e)))
-
 conflicts_from : {V : Type 0} (s : RegisterView V) (w u n c : ℕ) → 1 ≤ c → c ≤ n → s.has_read u c ≡ true → s.has_written w c ≡ true → conflicts s w u n ≡ true
 conflicts_from s w u zero c a b r k = absurd (omega arith)
-conflicts_from s w u (suc n) c a b r k = go (eqb c (suc n)) refl (conflicts_from s w u n c a)
-  where
-    go : (t : Bool) → eqb c (suc n) ≡ t → (c ≤ n → s.has_read u c ≡ true → s.has_written w c ≡ true → conflicts s w u n ≡ true) → conflicts s w u (suc n) ≡ true
-    go true e ih =
-        or_left (s.has_read u (suc n) && s.has_written w (suc n)) (conflicts s w u n)
-        (and_from (s.has_read u (suc n)) (s.has_written w (suc n)) (rw (← eqb-true c (suc n) e) r) (rw (← eqb-true c (suc n) e) k))
-    go false e ih = or_right (s.has_read u (suc n) && s.has_written w (suc n)) (conflicts s w u n) (ih (omega (arith, eqb-false c (suc n) e)) r k)
+conflicts_from s w u (suc n) c a b r k = ⊎_elim
+    (λ e. or_left (s.has_read u (suc n) && s.has_written w (suc n)) (conflicts s w u n) (and_from (s.has_read u (suc n)) (s.has_written w (suc n)) (rw (← e) r) (rw (← e) k)))
+    (λ e. or_right (s.has_read u (suc n) && s.has_written w (suc n)) (conflicts s w u n) (conflicts_from s w u n c a (omega (arith, e)) r k))
+    (cases_eq c (suc n))
+
+no_case : {A : Type 0} → ⊥ ⊎ A → A
+no_case (inl m) = absurd m
+no_case (inr m) = m
 
 -- what the tables of a view say of the run
 pub record ViewFacts {V : Type 0} (n : ℕ) (first : ℕ → V) (run : History V) (s : RegisterView V) : Type 0 where
@@ -47,18 +44,10 @@ pub record ViewFacts {V : Type 0} (n : ℕ) (first : ℕ → V) (run : History V
 module _ {V : Type 0} (top n : ℕ) (first : ℕ → V) (run : History V) (s : RegisterView V) (facts : ViewFacts n first run s) where
   -- whoever has written a cell has its flag set, and the other way round
   pub flag_when_written : (w c : ℕ) → 1 ≤ open_job run w → Wrote (by_jobs run) (open_job run w) c → s.has_written w c ≡ true
-  flag_when_written w c a wr = go (s.has_written w c) refl
-    where
-      go : (b : Bool) → s.has_written w c ≡ b → s.has_written w c ≡ true
-      go true e = e
-      go false e = absurd (unbuffered_unwritten (by_jobs run) (open_job run w) c (facts.own_is w c a ∙ rw e) wr)
+  flag_when_written w c a wr = true_from_ne_false (s.has_written w c) (λ e. unbuffered_unwritten (by_jobs run) (open_job run w) c (facts.own_is w c a ∙ rw e) wr)
 
   pub written_when_flag : (w c : ℕ) → 1 ≤ open_job run w → s.has_written w c ≡ true → Wrote (by_jobs run) (open_job run w) c
   written_when_flag w c a e = buffered_wrote (by_jobs run) (open_job run w) c (s.own w c) (facts.own_is w c a ∙ rw e)
-
-  up_if : (b : Bool) (x y : ℕ) → x ≤ y → x ≤ cond b y x
-  up_if true x y l = l
-  up_if false x y l = omega arith
 
   open_job_of : (w : ℕ) → 1 ≤ s.job w → 1 ≤ open_job run w
   open_job_of w a = rw (← facts.job_is w) a
@@ -79,47 +68,40 @@ module _ {V : Type 0} (top n : ℕ) (first : ℕ → V) (run : History V) (s : R
   lowered w p u ac ne a true e = (omega arith, omega arith, omega (arith, ac.4 u ne (job_of_open u a) e, facts.room u a))
   lowered w p u ac ne a false e = (omega arith, omega arith, facts.room u a)
 
-  written_later : (w p c : ℕ) → Accepts top n s w (commits p) → (b : Bool) → s.has_written w c ≡ b → s.written c ≤ cond b p (s.written c)
-  written_later w p c ac true e = omega (arith, (ac.3 c e).0)
-  written_later w p c ac false e = omega arith
-
   own_commit : (w p c : ℕ) → Accepts top n s w (commits p) → Wrote (by_jobs run) (open_job run w) c →
       (s.written c < p) × (s.read c < p) × (p ≤ cond (s.has_written w c) p (s.written c)) × ((u : ℕ) → (u ≡ w → ⊥) → 1 ≤ open_job run u → ReadGlobally (by_jobs run) (open_job run u) c → updated (λ u. cond (conflicts s w u n) (min (s.high u) p) (s.high u)) w 0 u ≤ p)
   own_commit w p c ac wr =
       let f = flag_when_written w c (open_job_of w ac.0) wr in
       ((ac.3 c f).0, (ac.3 c f).1, rw f (omega arith), λ u ne a r. rw (ne_eqb w u (λ e. ne (sym e)), conflicts_from s w u n c (facts.range w c f).0 (facts.range w c f).1 (facts.read_is u c a r) f) (omega arith))
 
+  -- a call that ends no job leaves every place as it was
+  abbrev with_bounds : (ℕ → ℕ) → (ℕ → ℕ) → Bounds
+  with_bounds low high = record { low = low; high = high; written = s.written; read = s.read; highest = s.highest }
+
+  moves_on : (w : ℕ) (d : Operation V V ℕ) (low high : ℕ → ℕ) → ends_at d ≡ None → OwnBounds top run (bounds_of s) w d (with_bounds low high) →
+      ((u : ℕ) → (u ≡ w → ⊥) → 1 ≤ open_job run u → Narrows (bounds_of s) u (with_bounds low high)) → CrewMoves top run (bounds_of s) w d (with_bounds low high)
+  moves_on w d low high none own others = record {
+    own = own;
+    others = others;
+    highest_up = omega arith;
+    written_up = λ c. omega arith;
+    read_up = λ c. omega arith;
+    ends = λ p e. absurd (none-some p (sym none ∙ e));
+  }
+
   crew_moves : (w : ℕ) (d : Operation V V ℕ) → Accepts top n s w d → CrewMoves top run (bounds_of s) w d (bounds_of (view_after top n s w d))
-  crew_moves w opens ac = record {
-    own = rw (eq-eqb w w refl) (omega arith, omega arith, ac.1);
-    others = λ u ne a. rw (ne_eqb w u (λ e. ne (sym e))) (omega arith, omega arith, facts.room u a);
-    highest_up = omega arith;
-    written_up = λ c. omega arith;
-    read_up = λ c. omega arith;
-    ends = λ p e. none_some p e;
-  }
-  crew_moves w (reads c v) ac = record {
-    own = rw (eq-eqb w w refl) (own_read w c v ac (s.has_written w c) refl);
-    others = λ u ne a. rw (ne_eqb w u (λ e. ne (sym e))) (omega arith, omega arith, facts.room u a);
-    highest_up = omega arith;
-    written_up = λ c. omega arith;
-    read_up = λ c. omega arith;
-    ends = λ p e. none_some p e;
-  }
-  crew_moves w (writes c v) ac = record {
-    own = (omega arith, omega arith, facts.room w (open_job_of w ac.0));
-    others = λ u ne a. (omega arith, omega arith, facts.room u a);
-    highest_up = omega arith;
-    written_up = λ c. omega arith;
-    read_up = λ c. omega arith;
-    ends = λ p e. none_some p e;
-  }
+  crew_moves w opens ac = moves_on w opens (updated s.low w s.highest) (updated s.high w top) refl (rw (eq-eqb w w refl) (omega arith, omega arith, ac.1))
+      (λ u ne a. rw (ne_eqb w u (λ e. ne (sym e))) (omega arith, omega arith, facts.room u a))
+  crew_moves w (reads c v) ac = moves_on w (reads c v) (updated s.low w (low_after_read s w c)) s.high refl (rw (eq-eqb w w refl) (own_read w c v ac (s.has_written w c) refl))
+      (λ u ne a. rw (ne_eqb w u (λ e. ne (sym e))) (omega arith, omega arith, facts.room u a))
+  crew_moves w (writes c v) ac =
+      moves_on w (writes c v) s.low s.high refl (omega arith, omega arith, facts.room w (open_job_of w ac.0)) (λ u ne a. (omega arith, omega arith, facts.room u a))
   crew_moves w (commits p) ac = record {
     own = (ac.1, ac.2, λ c wr. own_commit w p c ac wr);
     others = λ u ne a. rw (ne_eqb w u (λ e. ne (sym e))) (lowered w p u ac ne a (conflicts s w u n) refl);
     highest_up = omega arith;
-    written_up = λ c. written_later w p c ac (s.has_written w c) refl;
-    read_up = λ c. up_if (s.has_read w c) (s.read c) (max (s.read c) p) (omega arith);
+    written_up = λ c. cond_both (s.has_written w c) _ _ (λ k. s.written c ≤ k) (λ e. omega (arith, (ac.3 c e).0)) (λ _. omega arith);
+    read_up = λ c. cond_both (s.has_read w c) _ _ (λ k. s.read c ≤ k) (λ _. omega arith) (λ _. omega arith);
     ends = λ q e. raised w p q (open_job_of w ac.0) (cc);
   }
   crew_moves w (abandons p) ac = record {
@@ -127,20 +109,15 @@ module _ {V : Type 0} (top n : ℕ) (first : ℕ → V) (run : History V) (s : R
     others = λ u ne a. rw (ne_eqb w u (λ e. ne (sym e))) (omega arith, omega arith, facts.room u a);
     highest_up = omega arith;
     written_up = λ c. omega arith;
-    read_up = λ c. up_if (s.has_read w c) (s.read c) (max (s.read c) p) (omega arith);
+    read_up = λ c. cond_both (s.has_read w c) _ _ (λ k. s.read c ≤ k) (λ _. omega arith) (λ _. omega arith);
     ends = λ q e. raised w p q (open_job_of w ac.0) (cc);
   }
 
   pub well_made_step : (w : ℕ) (d : Operation V V ℕ) → Accepts top n s w d → WellMade run → WellMade (by w d ∷ run)
-  well_made_step w opens ac wm = (rw (← facts.job_is w) ac.0, wm)
-  well_made_step w (reads c v) ac wm = (open_job_of w ac.0, wm)
-  well_made_step w (writes c v) ac wm = (open_job_of w ac.0, wm)
-  well_made_step w (commits p) ac wm = (open_job_of w ac.0, wm)
-  well_made_step w (abandons p) ac wm = (open_job_of w ac.0, wm)
+  well_made_step w d ac wm = (grind (arith, ac, facts.job_is w), wm)
 
   shown : (b : Bool) (o v : V) → cond b o v ≡ unwrap_or (cond b (Some o) None) v
-  shown true o v = refl
-  shown false o v = refl
+  shown b o v = cond_both b _ _ (λ k. k ≡ unwrap_or (cond b (Some o) None) v) (λ e. rw e refl) (λ e. rw e refl)
 
   own_or_value : (w c : ℕ) → 1 ≤ open_job run w →
       cond (s.has_written w c) (s.own w c) (s.value c) ≡ unwrap_or (buffered (projection (by_jobs run) (open_job run w)) c) (committed_value first (by_jobs run) c)
@@ -155,16 +132,7 @@ module _ {V : Type 0} (top n : ℕ) (first : ℕ → V) (run : History V) (s : R
 
   -- room after a call, from the moves
   room_after : (w u : ℕ) (l h : ℕ → ℕ) → (1 ≤ open_job run w → l w + 2 ≤ h w) → ((u : ℕ) → (u ≡ w → ⊥) → 1 ≤ open_job run u → l u + 2 ≤ h u) → 1 ≤ open_job run u → l u + 2 ≤ h u
-  room_after w u l h mine other a = go (eqb u w) refl
-    where
-      go : (b : Bool) → eqb u w ≡ b → l u + 2 ≤ h u
-      go true e = rw (eqb-true u w e) (mine (rw (← eqb-true u w e) a))
-      go false e = other u (eqb-false u w e) a
-
-  -- buffered values and first-hand reads of a job do not change by an operation that is no write and no read
-  buffered_either : (k : ℕ) (t u : List (Operation V V ℕ)) (b : Bool) → buffered t k ≡ buffered u k → buffered (cond b t u) k ≡ buffered u k
-  buffered_either k t u true e = e
-  buffered_either k t u false e = refl
+  room_after w u l h mine other a = ⊎_elim (λ e. rw e (mine (rw (← e) a))) (λ e. other u e a) (cases_eq u w)
 
   no_read : WellMade run → (x c : ℕ) → projection (by_jobs run) x ≡ [] → ReadGlobally (by_jobs run) x c → ⊥
   no_read wm x c e r = both_ways (is_active (projection (by_jobs run) x)) (ap is_active e) (reader_active (by_jobs run) (well_formed run wm) x c r (ap end_place e))
@@ -195,31 +163,21 @@ module _ {V : Type 0} (top n : ℕ) (first : ℕ → V) (run : History V) (s : R
       owns u c false e a = rw (ne_eqb k (open_job run u) (λ q. omega (arith, open_job_numbered run u))) (facts.own_is u c a)
 
       seen : (u c : ℕ) (b : Bool) → eqb w u ≡ b → 1 ≤ cond b k (open_job run u) → ReadGlobally (by k opens ∷ h) (cond b k (open_job run u)) c → s.has_read u c ≡ true
-      seen u c true e a r = go (read_cases k c (by k opens) h r)
-        where
-          go : ⊥ ⊎ ReadGlobally h k c → s.has_read u c ≡ true
-          go (inl m) = absurd m
-          go (inr m) = absurd (no_read wm k c none_yet m)
-      seen u c false e a r = go (read_cases (open_job run u) c (by k opens) h r)
-        where
-          go : ⊥ ⊎ ReadGlobally h (open_job run u) c → s.has_read u c ≡ true
-          go (inl m) = absurd m
-          go (inr m) = facts.read_is u c a m
+      seen u c true e a r = absurd (no_read wm k c none_yet (no_case (read_cases k c (by k opens) h r)))
+      seen u c false e a r = facts.read_is u c a (no_case (read_cases (open_job run u) c (by k opens) h r))
 
       unflagged : (u c : ℕ) (b : Bool) → cond b k (open_job run u) ≡ 0 → s.has_written u c ≡ false
-      unflagged u c true q = absurd (omega arith)
-      unflagged u c false q = facts.closed_is u c q
+      unflagged u c b q = grind (arith, facts.closed_is, q)
 
       roomy : (u : ℕ) (b : Bool) → 1 ≤ cond b k (open_job run u) → cond b s.highest (s.low u) + 2 ≤ cond b top (s.high u)
-      roomy u true a = ac.1
-      roomy u false a = facts.room u a
+      roomy u b a = grind (arith, ac.1, facts.room, a)
 
   facts_read : (w c : ℕ) (v : V) → Accepts top n s w (reads c v) → ViewFacts n first (by w (reads c v) ∷ run) (view_after top n s w (reads c v))
   facts_read w c v ac = record {
     job_is = facts.job_is;
     opened_is = facts.opened_is;
     value_is = facts.value_is;
-    own_is = λ u k a. buffered_either k (reads c v ∷ projection h (open_job run u)) (projection h (open_job run u)) (eqb (open_job run w) (open_job run u)) refl ∙ facts.own_is u k a;
+    own_is = λ u k a. cond_both (eqb (open_job run w) (open_job run u)) _ _ (λ t. buffered t k ≡ buffered (projection h (open_job run u)) k) (λ _. refl) (λ _. refl) ∙ facts.own_is u k a;
     read_is = λ u k a r. seen u k a (read_cases (open_job run u) k (by (open_job run w) (reads c v)) h r);
     closed_is = facts.closed_is;
     range = facts.range;
@@ -230,11 +188,7 @@ module _ {V : Type 0} (top n : ℕ) (first : ℕ → V) (run : History V) (s : R
       h = by_jobs run
 
       inner : (k : ℕ) (d : Bool) → eqb c k ≡ d → s.has_read w k ≡ true → cond d (cond (s.has_written w c) (s.has_read w c) true) (s.has_read w k) ≡ true
-      inner k true f q = go (s.has_written w c) (rw (eqb-true c k f) q)
-        where
-          go : (b : Bool) → s.has_read w c ≡ true → cond b (s.has_read w c) true ≡ true
-          go true q = q
-          go false q = refl
+      inner k true f q = cond_both (s.has_written w c) _ _ (λ b. b ≡ true) (λ _. rw (eqb-true c k f) q) (λ _. refl)
       inner k false f q = q
 
       flag : (u k : ℕ) (b : Bool) → eqb w u ≡ b → s.has_read u k ≡ true → cond b (updated (s.has_read w) c (cond (s.has_written w c) (s.has_read w c) true)) (s.has_read u) k ≡ true
@@ -250,17 +204,13 @@ module _ {V : Type 0} (top n : ℕ) (first : ℕ → V) (run : History V) (s : R
       seen u k a (inl (e, f, nw)) = rw (eq-eqb w u (one_crew run w u (open_job_of w ac.0) e), eq-eqb c k f) (mine (s.has_written w c) refl (rw (e, f) nw))
       seen u k a (inr m) = flag u k (eqb w u) refl (facts.read_is u k a m)
 
-  read_later_still : (u k x : ℕ) (d : Operation V V ℕ) → 1 ≤ open_job run u → ⊥ ⊎ ReadGlobally (by_jobs run) (open_job run u) k → s.has_read u k ≡ true
-  read_later_still u k x d a (inl m) = absurd m
-  read_later_still u k x d a (inr m) = facts.read_is u k a m
-
   facts_write : (w c : ℕ) (v : V) → Accepts top n s w (writes c v) → ViewFacts n first (by w (writes c v) ∷ run) (view_after top n s w (writes c v))
   facts_write w c v ac = record {
     job_is = facts.job_is;
     opened_is = facts.opened_is;
     value_is = facts.value_is;
     own_is = λ u k a. owns u k a (eqb w u) refl;
-    read_is = λ u k a r. read_later_still u k 0 opens a (read_cases (open_job run u) k (by (open_job run w) (writes c v)) h r);
+    read_is = λ u k a r. facts.read_is u k a (no_case (read_cases (open_job run u) k (by (open_job run w) (writes c v)) h r));
     closed_is = λ u k q. unflagged u k q (eqb w u) refl;
     range = λ u k q. ranged u k (eqb w u) q;
     room = facts.room;
@@ -299,7 +249,7 @@ module _ {V : Type 0} (top n : ℕ) (first : ℕ → V) (run : History V) (s : R
         buffered (projection (by (open_job run w) d ∷ by_jobs run) (cond b 0 (open_job run u))) k ≡ cond (cond b (λ c. false) (s.has_written u) k) (Some (s.own u k)) None
     ended_own d q u k true a = absurd (omega arith)
     ended_own d q u k false a =
-        buffered_either k (d ∷ projection (by_jobs run) (open_job run u)) (projection (by_jobs run) (open_job run u)) (eqb (open_job run w) (open_job run u)) (q _ k) ∙ facts.own_is u k a
+        cond_both (eqb (open_job run w) (open_job run u)) _ _ (λ t. buffered t k ≡ buffered (projection (by_jobs run) (open_job run u)) k) (λ _. q _ k) (λ _. refl) ∙ facts.own_is u k a
 
     ended_read : (a : Event V V ℕ) → ((x k : ℕ) → ReadGlobally (a ∷ by_jobs run) x k → ReadGlobally (by_jobs run) x k) → (u k : ℕ) (b : Bool) →
         1 ≤ cond b 0 (open_job run u) → ReadGlobally (a ∷ by_jobs run) (cond b 0 (open_job run u)) k → cond b (λ c. false) (s.has_read u) k ≡ true
@@ -316,12 +266,7 @@ module _ {V : Type 0} (top n : ℕ) (first : ℕ → V) (run : History V) (s : R
 
     ended_room : (h : ℕ → ℕ) → ((u : ℕ) → (u ≡ w → ⊥) → 1 ≤ open_job run u → s.low u + 2 ≤ h u) → (u : ℕ) (b : Bool) → eqb w u ≡ b → 1 ≤ cond b 0 (open_job run u) →
         cond b 0 (s.low u) + 2 ≤ cond b 0 (h u)
-    ended_room h f u true e a = absurd (omega arith)
-    ended_room h f u false e a = f u (λ q. eqb-false w u e (sym q)) a
-
-  no_case : {A : Type 0} → ⊥ ⊎ A → A
-  no_case (inl m) = absurd m
-  no_case (inr m) = m
+    ended_room h f u b e a = grind (arith, f, a, eqb-false w u)
 
   facts_commit : (w p : ℕ) → Accepts top n s w (commits p) → ViewFacts n first (by w (commits p) ∷ run) (view_after top n s w (commits p))
   facts_commit w p ac = record {

@@ -1,4 +1,4 @@
-// Histories of a register's calls, and the theorems about them. The functions return nothing of use: each has a theorem for its contract.
+// Histories of a register's calls, and the theorems about them. The functions do nothing: each has a theorem for its contract.
 #![tactic(auto)]
 
 ghost use Rattle.history.specs.Theorems.{WellMadeRunsAreWellFormed, RespectfulOrdersExplain, SerializationOrdersExplain, AscendingRowsAreOrders, PlacesGiveAnOrder};
@@ -9,130 +9,90 @@ ghost use Rattle.history.specs.Examples.{CrossedReadsHaveNoOrder, OvertakingHasA
 
 // What serial execution explains
 
-pub fn well_made_runs_are_well_formed<V>() -> u8
+pub fn well_made_runs_are_well_formed<V>()
     ensures { WellMadeRunsAreWellFormed V }
-{
-    0
-}
+{}
 
-pub fn respectful_orders_explain<V>() -> u8
+pub fn respectful_orders_explain<V>()
     ensures { RespectfulOrdersExplain V }
-{
-    0
-}
+{}
 
-pub fn serialization_orders_explain<V>() -> u8
+pub fn serialization_orders_explain<V>()
     ensures { SerializationOrdersExplain V }
-{
-    0
-}
+{}
 
-pub fn ascending_rows_are_orders<V>() -> u8
+pub fn ascending_rows_are_orders<V>()
     ensures { AscendingRowsAreOrders V }
-{
-    0
-}
+{}
 
-pub fn places_give_an_order<V>() -> u8
+pub fn places_give_an_order<V>()
     ensures { PlacesGiveAnOrder V }
-{
-    0
-}
+{}
 
 // Opacity
 
-pub fn moved_bounds_agree<V>() -> u8
+pub fn moved_bounds_agree<V>()
     ensures { MovedBoundsAgree V }
-{
-    0
-}
+{}
 
-pub fn bounds_are_opaque<V>() -> u8
+pub fn bounds_are_opaque<V>()
     ensures { BoundsAreOpaque V }
-{
-    0
-}
+{}
 
-pub fn views_agree<V>() -> u8
+pub fn views_agree<V>()
     ensures { ViewsAgree V }
-{
-    0
-}
+{}
 
-pub fn views_are_opaque<V>() -> u8
+pub fn views_are_opaque<V>()
     ensures { ViewsAreOpaque V }
-{
-    0
-}
+{}
 
 // Permissiveness
 
-pub fn answers_do_not_matter<V>() -> u8
+pub fn answers_do_not_matter<V>()
     ensures { AnswersDoNotMatter V }
-{
-    0
-}
+{}
 
-pub fn views_are_permissive<V>() -> u8
+pub fn views_are_permissive<V>()
     ensures { ViewsArePermissive V }
-{
-    0
-}
+{}
 
-pub fn positions_are_accepted<V>() -> u8
+pub fn positions_are_accepted<V>()
     ensures { PositionsAreAccepted V }
-{
-    0
-}
+{}
 
-pub fn scripts_are_permissive<V>() -> u8
+pub fn scripts_are_permissive<V>()
     ensures { ScriptsArePermissive V }
-{
-    0
-}
+{}
 
-pub fn positions_make_a_script<V>() -> u8
+pub fn positions_make_a_script<V>()
     ensures { PositionsMakeAScript V }
-{
-    0
-}
+{}
 
 // Any chooser that keeps the law
 
-pub fn chosen_runs_are_view_runs<V>() -> u8
+pub fn chosen_runs_are_view_runs<V>()
     ensures { ChosenRunsAreViewRuns V }
-{
-    0
-}
+{}
 
-pub fn chosen_places_give_an_order<V>() -> u8
+pub fn chosen_places_give_an_order<V>()
     ensures { ChosenPlacesGiveAnOrder V }
-{
-    0
-}
+{}
 
 // Examples
 
-pub fn crossed_reads_have_no_order() -> u8
+pub fn crossed_reads_have_no_order()
     ensures { CrossedReadsHaveNoOrder }
-{
-    0
-}
+{}
 
-pub fn overtaking_has_an_order() -> u8
+pub fn overtaking_has_an_order()
     ensures { OvertakingHasAnOrder }
-{
-    0
-}
+{}
 
-pub fn read_skew_is_not_explained() -> u8
+pub fn read_skew_is_not_explained()
     ensures { ReadSkewIsNotExplained }
-{
-    0
-}
+{}
 
-pub fn real_time_is_kept() -> u8
+pub fn real_time_is_kept()
     ensures { RealTimeIsKept }
-{
-    0
-}
+{}
