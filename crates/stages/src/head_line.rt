@@ -37,7 +37,7 @@ fn read_size(field: &[u8], at: usize, most: u64) -> Result<u64, BadField>
     ensures { result ≡ size_in at most field.now }
 {
     let n = read_number(field, at)?;
-    if n < 1 || n > most {
+    if !(1..=most).contains(&n) {
         return Err(Cause::OutOfRange.in_field(at));
     }
     Ok(n)
