@@ -1,6 +1,5 @@
-ghost use Rattle.choosers.specs.Meaning.{moved_on};
 ghost use Rattle.std.specs.Prelude.{◌≡◌, []};
-ghost use Rattle.std.specs.Prelude.{◌≡◌};
+ghost use Rattle.choosers.specs.Meaning.{moved_on};
 ghost use Rattle.rules.specs.Contents.{Same};
 ghost use Rattle.rules.specs.Registers.{register_of};
 ghost use Rattle.commits.specs.Committing.{MayCommit, CommittedAt};
