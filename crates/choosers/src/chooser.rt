@@ -12,6 +12,7 @@ pub trait Chooser {
 
     ghost lawful: { (s : Self) → KeepsLaw (meaning s) };
 
+    // The bounds are two parameters: a struct would be made of a record's two places at each call.
     fn choose(&mut self, low: Place, high: Place) -> Place
         ensures gave { result.0 ≡ meaning self.old [] low.0 high.0 }
         ensures moved { meaning self.new ≡ moved_on (meaning self.old) low.0 high.0 };

@@ -5,7 +5,7 @@ use terms::records::Entry;
 use terms::refusals::Refusal;
 use values::kinds::Kind;
 
-// Prints a value's fields, each after a comma.
+// Prints a value's fields, each after a comma; fields go by number.
 fn print_fields<K: Kind>(rt: &HostRuntime, value: &K) -> io::Result<()> {
     for i in 0..K::count() {
         let number = value.field(i);
@@ -14,6 +14,7 @@ fn print_fields<K: Kind>(rt: &HostRuntime, value: &K) -> io::Result<()> {
     Ok(())
 }
 
+// Prints a call as a schedule has it; the match is on what the call is.
 fn print_call<K: Kind>(rt: &HostRuntime, call: Call<K>) -> io::Result<()> {
     match call {
         Call::Open { crew } => {

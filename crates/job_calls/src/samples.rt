@@ -30,7 +30,7 @@ impl Sample for Dial {
     }
 }
 
-// A call by chance, now and then of a crew or a cell that is not there.
+// A call by chance (so many of fourteen for each, hence the ranges), now and then of a crew or a cell that is not there.
 pub(crate) fn call_by_chance<K: Sample>(draws: &mut Draws) -> Call<K> {
     let which = draws.draw(0, 14);
     let crew = CrewNumber(draws.one_of_four());

@@ -11,7 +11,8 @@ use terms::records::JobRecord;
 use terms::refusals::Refusal;
 use values::table::ValueTable;
 
-// Stores a value in row `i` of a table of values.
+// Stores a value in row `i` of a table of values. A function of its own, since a table made of a field of `t` would leave
+// what that field holds afterwards open in the proof.
 fn store<V: Copy>(rows: &mut [V], i: usize, value: V)
     ensures { rows.new ≡ slice_set rows.old i value }
 {
@@ -41,6 +42,7 @@ pub fn start<V>(head: Filling, t: &mut Tables<'_, V>) -> Result<Started, (Fillin
     ensures started { elim result [ Ok s ↦ JustStarted {V = V} (started_of s) (contents_of V t.new) | Err _ ↦ Unit {0} ] }
     ensures refused { elim result [ Ok _ ↦ Unit {0} | Err e ↦ (e.0 ≡ head) × (contents_of V t.new ≡ contents_of V t.old) ] }
 {
+    // Not by `?`: a closure that hands the head back would take it from the lines below.
     if let Err(refusal) = wrong_table(head.sizes, t) {
         return Err((head, refusal));
     }

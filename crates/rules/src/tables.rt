@@ -1,6 +1,6 @@
 use terms::records::{Entry, JobRecord};
 
-// The seven tables, lent to each call. A register of n cells, m crews and b entries has n values, n written places,
+// The seven tables, lent to each call: the register has no memory of its own. A register of n cells, m crews and b entries has n values, n written places,
 // n read places, m job records, m × n own values, m × n flags and b entries of the book.
 #[derive(Drop)]
 pub struct Tables<'a, V> {

@@ -8,7 +8,8 @@ use choosers::stride::Stride;
 use terms::refusals::{BadField, Cause};
 use text::{count_fields, read_field};
 
-// What a chooser line says: a stride, or a script of so many numbers, which stand in the list that was lent for them.
+// What a chooser line says: a stride, or a script of so many numbers, which stand in the list that was lent for them. A
+// count, since a clause cannot say what the list holds once its used part is lent out in the answer.
 #[derive(Drop)]
 pub enum ChooserLine {
     Stride(Stride),

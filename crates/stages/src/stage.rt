@@ -64,27 +64,30 @@ pub struct Reader {
 }
 
 impl Reader {
-    // Takes the next line by its shape: refuses it for its first letter, then for its count of fields, or moves on.
+    // Takes the next line by its shape: refuses it for its first letter, then for its count of fields, or moves on. The match
+    // of the reader's own stage with the letters, with guards on the counts, is the form that a rule of the project sets.
     pub fn take(&mut self, line: Shape) -> Result<(), BadField>
         ensures { ◌≡◌ {A = Answered (Unit {0}) Bad × Machine} (result, self.new) (taken self.old line) }
     {
-        match (self.stage, line.letter, line.second, line.fields) {
-            (Stage::Head, Some(b'R'), _, 5) => self.stage = Stage::Chooser,
-            (Stage::Chooser, Some(b'P'), Some(b'S'), 3)
-            | (Stage::Chooser, Some(b'P'), Some(b'X'), 3..=258) => self.stage = Stage::Cells,
-            (Stage::Chooser, Some(b'P'), Some(b'S' | b'X'), _) => {
+        let fields = line.fields;
+        match (self.stage, line.letter, line.second) {
+            (Stage::Head, Some(b'R'), _) if fields == 5 => self.stage = Stage::Chooser,
+            (Stage::Chooser, Some(b'P'), Some(b'S')) if fields == 3 => self.stage = Stage::Cells,
+            (Stage::Chooser, Some(b'P'), Some(b'X')) if 3 <= fields && fields <= 258 => self.stage =
+                Stage::Cells,
+            (Stage::Chooser, Some(b'P'), Some(b'S' | b'X')) => {
                 return Err(Cause::WrongCount.in_field(1));
             }
-            (Stage::Chooser, Some(b'P'), _, 2..) => self.stage = Stage::Cells,
-            (Stage::Cells, Some(b'V'), _, 1..) if line.fields - 1 == self.width => {
-                self.left = self.left.saturating_sub(1);
-                if self.left == 0 {
+            (Stage::Chooser, Some(b'P'), _) if 2 <= fields => self.stage = Stage::Cells,
+            (Stage::Cells, Some(b'V'), _) if 1 <= fields && fields - 1 == self.width => {
+                if self.left <= 1 {
                     self.stage = Stage::Calls;
                 }
+                self.left = self.left.saturating_sub(1);
             }
-            (Stage::Head, Some(b'R'), _, _)
-            | (Stage::Chooser, Some(b'P'), _, _)
-            | (Stage::Cells, Some(b'V'), _, _) => return Err(Cause::WrongCount.in_field(1)),
+            (Stage::Head, Some(b'R'), _)
+            | (Stage::Chooser, Some(b'P'), _)
+            | (Stage::Cells, Some(b'V'), _) => return Err(Cause::WrongCount.in_field(1)),
             _ => return Err(Cause::WrongLetter.in_field(1)),
         }
         Ok(())

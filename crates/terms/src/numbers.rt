@@ -1,4 +1,4 @@
-// The register's numbers, each a type of its own: none can take another's part.
+// The register's numbers, each a struct of its own by a rule of the register: none can take another's part.
 
 // A place: a job's serialization point, the whole number by which the day book is ordered.
 #[derive(Clone, Copy, PartialEq, Eq, PartialOrd, Ord, Debug, Default)]

@@ -12,7 +12,8 @@ pub enum Standing {
     Open,
 }
 
-// A crew's job: whether it is open, its number, and the two bounds between which its place will lie.
+// A crew's job: whether it is open, its number, and the two bounds between which its place will lie. By a rule of the
+// register a closed record has its zeros, and a damaged one may hold any numbers, so that they stand beside the standing.
 #[derive(Clone, Copy, PartialEq, Eq, Debug, Default)]
 pub struct JobRecord {
     pub standing: Standing,

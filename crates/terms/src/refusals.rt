@@ -16,7 +16,7 @@ pub enum TableName {
 }
 
 impl TableName {
-    // The table's number, 1 to 7.
+    // The table's number, 1 to 7. One cast in each of three enums: a trait for it would be longer.
     pub fn number(self) -> u8
         ensures { result ≡ table_number self }
     {
@@ -106,7 +106,7 @@ pub enum Refusal {
 }
 
 impl Refusal {
-    // The refusal's number, 1 to 14.
+    // The refusal's number, 1 to 14. A match, since a case that holds a value cannot be cast.
     pub fn number(self) -> u8
         ensures { result ≡ number_of self }
     {

@@ -13,6 +13,7 @@ pub fn number(field: &[u8]) -> Option<u64>
     if field.is_empty() || field.len() > 19 {
         return None;
     }
+    // A `for`, since a fold would carry the bound of the sum through a closure.
     let mut n: u64 = 0;
     for b in field {
         if !b.is_ascii_digit() {
@@ -34,7 +35,8 @@ pub fn cut(bytes: &[u8], separator: u8) -> (&[u8], &[u8])
     }
 }
 
-// A line's first field, with the bytes after its comma, which are yet to be read.
+// A line's first field, with the bytes after its comma, which are yet to be read. It and `read_line` are `cut` at one
+// byte: a name for each reads plainer than that byte at every call.
 pub fn read_field(line: &[u8]) -> (&[u8], &[u8])
     ensures field { result.0.now ≡ before 44 line.now }
     ensures rest { result.1.now ≡ after 44 line.now }

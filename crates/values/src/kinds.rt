@@ -13,13 +13,14 @@ pub trait Kind: Copy {
 
     ghost form: { Form Self };
 
+    // Beside FIELDS, since no ghost member of a trait can name its constants: each kind shows the two to be the same.
     fn count() -> usize
         ensures { result ≡ form.width };
 
     fn blank() -> Self
         ensures { result ≡ form.blank };
 
-    // The number in field `i`, counted from 0; 0 where there is none.
+    // The number in field `i`, counted from 0; 0 where there is none. Fields go by number, as a line is read and written.
     fn field(&self, i: usize) -> u64
         ensures { result ≡ slice_index (form.fields self.now) i };
 

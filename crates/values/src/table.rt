@@ -27,6 +27,7 @@ impl<'a, V: Copy> ValueTable<'a, V> {
         ensures stored { self.new.rows.now ≡ slice_set self.old.rows.now i v }
         ensures same { self.new.rows.ghost_name ≡ self.old.rows.ghost_name }
     {
+        // By index: what is stored through `get_mut` stays open in the proof.
         if i < self.rows.len() {
             self.rows[i] = v;
         }
