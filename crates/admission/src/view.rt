@@ -14,6 +14,7 @@ use std::marker::Model;
 use terms::records::JobRecord;
 
 // What a job call looks at: the head and the tables that it was handed. A contract sees the register that they make.
+#[derive(Drop)]
 pub struct View<'a, 't, V> {
     pub(crate) head: &'a Started,
     pub(crate) tables: &'a Tables<'t, V>,
