@@ -23,7 +23,7 @@ fn unsound(low: u64, high: u64, active: usize) -> bool
     high < 2 || high - 2 < low || 1 << 62 < high || active == 0
 }
 
-impl<'a, 't, V> View<'a, 't, V> {
+impl<V> View<'_, '_, V> {
     // The crew that may open a job, or the first test that refuses the call.
     pub fn admit_opening(&self, number: CrewNumber) -> Result<Crew, Refusal>
         ensures answer { result_err result ≡ first_refusal (tests_of {V = V} self.now (Opening number)) }

@@ -72,7 +72,7 @@ impl<'a, 't, V> View<'a, 't, V> {
     fn flag(&self, crew: Crew, i: usize) -> u8
         ensures { result ≡ flag_of self.now crew.number (i + 1) }
     {
-        let k = row(self.head.sizes, crew).saturating_add(i);
+        let k = row(self.sizes(), crew).saturating_add(i);
         let t: &Tables<'_, V> = self.tables;
         t.flags.get(k).copied().unwrap_or(0)
     }

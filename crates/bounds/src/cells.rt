@@ -11,9 +11,7 @@ fn cell_bound<V>(view: &View<'_, '_, V>, crew: Crew, i: usize) -> u64
     ensures { result ≡ cell_bound view.now crew.number (i + 1) }
 {
     if view.has_written(crew, i) {
-        let written = view.written_place(i);
-        let read = view.read_place(i);
-        written.max(read)
+        view.written_place(i).max(view.read_place(i))
     } else {
         0
     }

@@ -55,13 +55,14 @@ pub fn read<V: Copy, C: Chooser>(
     ensures same { Same V t.new t.old }
     ensures performed { CallPerformed V head.old t.old (C.Chooser.meaning chooser.old) (Reading crew cell) result head.new t.new (C.Chooser.meaning chooser.new) }
 {
-    let (known, at) = View::new(head, t).admit_at(crew, cell)?;
+    let view = View::new(head, t);
+    let (known, at) = view.admit_at(crew, cell)?;
     let k = spot(head.sizes, known, at);
     let i = at.number - 1;
     if is_written(t.flags[k]) {
         return Ok(Answer::Told(told(t, Shown::Own(k))));
     }
-    let job = View::new(head, t).record_of(known);
+    let job = view.record_of(known);
     let low = job.low.max(Place(t.written[i]));
     if job.high.0 - 2 < low.0 {
         return Err(Refusal::Stale(abandon_job(head, t, chooser, known)));

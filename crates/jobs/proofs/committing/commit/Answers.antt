@@ -1,4 +1,4 @@
-use Rattle.std.proofs.Common.{ℕ, ◌+◌, ◌<◌, ◌≤◌, ap, ◌∙◌, subst, arith}
+use Rattle.std.proofs.Common.{ℕ, ◌+◌, ◌<◌, ◌≤◌, ap, subst, arith}
 use Rattle.rules.specs.Registers.{high_of, register_of}
 use Rattle.rules.specs.JobCalls.{commit_low}
 use Rattle.endings.specs.Endings.{AbandonedAt}
