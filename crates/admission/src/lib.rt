@@ -6,3 +6,4 @@ pub mod flags;
 pub mod looking;
 pub mod numbered;
 pub mod refusing;
+pub mod view;

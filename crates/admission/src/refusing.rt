@@ -5,15 +5,14 @@ ghost use Rattle.rules.specs.declared.calls.Call.TheVariants.{Open as Opening};
 ghost use Rattle.rules.specs.Limits.{top};
 ghost use Rattle.rules.specs.Refusing.{first_refusal};
 ghost use Rattle.rules.specs.Tables.{outside};
-ghost use Rattle.rules.specs.Registers.{has_job, low_of, high_of, register_of};
+ghost use Rattle.rules.specs.Registers.{has_job, low_of, high_of};
 ghost use Rattle.rules.specs.JobCalls.{damaged as isDamaged, call_tests, tests_of};
 ghost use Rattle.admission.specs.Lent.{job_tests, MayOpen, MayGoOn};
 
-use crate::looking::{is_open, record_of};
+use crate::looking::is_open;
 use crate::numbered::{Cell, Crew};
+use crate::view::View;
 use register::refusing::wrong_table;
-use rules::head::Started;
-use rules::tables::Tables;
 use terms::numbers::{CellNumber, CrewNumber};
 use terms::refusals::Refusal;
 
@@ -24,68 +23,61 @@ fn unsound(low: u64, high: u64, active: usize) -> bool
     high < 2 || high - 2 < low || 1 << 62 < high || active == 0
 }
 
-// The crew that may open a job, or the first test that refuses the call.
-pub fn admit_opening<V>(
-    head: &Started,
-    t: &Tables<'_, V>,
-    number: CrewNumber,
-) -> Result<Crew, Refusal>
-    ensures answer { result_err result ≡ first_refusal (tests_of {V = V} (register_of V head.now t.now) (Opening number)) }
-    ensures admitted { elim result [ Ok w ↦ (w.number ≡ number.0) × MayOpen {V = V} (register_of V head.now t.now) w.number | Err _ ↦ Unit {0} ] }
-{
-    wrong_table(head.sizes, t)?;
-    let crew = Crew::of(number, head.sizes).ok_or(Refusal::NoCrew)?;
-    if is_open(record_of(t, crew).standing) {
-        return Err(Refusal::JobOpen);
+impl<V> View<'_, '_, V> {
+    // The crew that may open a job, or the first test that refuses the call.
+    pub fn admit_opening(&self, number: CrewNumber) -> Result<Crew, Refusal>
+        ensures answer { result_err result ≡ first_refusal (tests_of {V = V} self.now (Opening number)) }
+        ensures admitted { elim result [ Ok w ↦ (w.number ≡ number.0) × MayOpen {V = V} self.now w.number | Err _ ↦ Unit {0} ] }
+    {
+        wrong_table(self.head.sizes, self.tables)?;
+        let crew = Crew::of(number, self.head.sizes).ok_or(Refusal::NoCrew)?;
+        if is_open(self.record_of(crew).standing) {
+            return Err(Refusal::JobOpen);
+        }
+        if 1 << 62 < self.head.highest.0 + 2 {
+            return Err(Refusal::PlacesSpent);
+        }
+        if self.head.ended + self.head.active == self.head.sizes.entries {
+            return Err(Refusal::BookFull);
+        }
+        Ok(crew)
     }
-    if 1 << 62 < head.highest.0 + 2 {
-        return Err(Refusal::PlacesSpent);
-    }
-    if head.ended + head.active == head.sizes.entries {
-        return Err(Refusal::BookFull);
-    }
-    Ok(crew)
-}
 
-// The crew may go on with its job, or the first test that bars it.
-fn can_go_on<V>(head: &Started, t: &Tables<'_, V>, crew: Crew) -> Result<(), Refusal>
-    ensures answer { result_err result ≡ first_refusal ((not (has_job (register_of V head.now t.now) crew.number), NoJobOpen) ∷ (isDamaged (register_of V head.now t.now) crew.number, DamagedJob) ∷ []) }
-    ensures going_on { elim result [ Ok _ ↦ (low_of (register_of V head.now t.now) crew.number + 2 ≤ high_of (register_of V head.now t.now) crew.number) × (high_of (register_of V head.now t.now) crew.number ≤ top) × (1 ≤ head.now.active) | Err _ ↦ Unit {0} ] }
-{
-    let job = record_of(t, crew);
-    if !is_open(job.standing) {
-        return Err(Refusal::NoJob);
+    // The crew may go on with its job, or the first test that bars it.
+    fn can_go_on(&self, crew: Crew) -> Result<(), Refusal>
+        ensures answer { result_err result ≡ first_refusal ((not (has_job self.now crew.number), NoJobOpen) ∷ (isDamaged self.now crew.number, DamagedJob) ∷ []) }
+        ensures going_on { elim result [ Ok _ ↦ (low_of self.now crew.number + 2 ≤ high_of self.now crew.number) × (high_of self.now crew.number ≤ top) × (1 ≤ self.now.head.active) | Err _ ↦ Unit {0} ] }
+    {
+        let job = self.record_of(crew);
+        if !is_open(job.standing) {
+            return Err(Refusal::NoJob);
+        }
+        if unsound(job.low.0, job.high.0, self.head.active) {
+            return Err(Refusal::Damaged);
+        }
+        Ok(())
     }
-    if unsound(job.low.0, job.high.0, head.active) {
-        return Err(Refusal::Damaged);
+
+    // The crew that may go on with its job, or the first test that refuses the call.
+    pub fn admit(&self, number: CrewNumber) -> Result<Crew, Refusal>
+        ensures answer { result_err result ≡ first_refusal (job_tests {V = V} self.now no number.0) }
+        ensures admitted { elim result [ Ok w ↦ (w.number ≡ number.0) × MayGoOn {V = V} self.now w.number | Err _ ↦ Unit {0} ] }
+    {
+        wrong_table(self.head.sizes, self.tables)?;
+        let crew = Crew::of(number, self.head.sizes).ok_or(Refusal::NoCrew)?;
+        self.can_go_on(crew)?;
+        Ok(crew)
     }
-    Ok(())
-}
 
-// The crew that may go on with its job, or the first test that refuses the call.
-pub fn admit<V>(head: &Started, t: &Tables<'_, V>, number: CrewNumber) -> Result<Crew, Refusal>
-    ensures answer { result_err result ≡ first_refusal (job_tests {V = V} (register_of V head.now t.now) no number.0) }
-    ensures admitted { elim result [ Ok w ↦ (w.number ≡ number.0) × MayGoOn {V = V} (register_of V head.now t.now) w.number | Err _ ↦ Unit {0} ] }
-{
-    wrong_table(head.sizes, t)?;
-    let crew = Crew::of(number, head.sizes).ok_or(Refusal::NoCrew)?;
-    can_go_on(head, t, crew)?;
-    Ok(crew)
-}
-
-// The crew that may go on with its job at the cell, and the cell, or the first test that refuses the call.
-pub fn admit_at<V>(
-    head: &Started,
-    t: &Tables<'_, V>,
-    number: CrewNumber,
-    cell: CellNumber,
-) -> Result<(Crew, Cell), Refusal>
-    ensures answer { result_err result ≡ first_refusal (job_tests {V = V} (register_of V head.now t.now) (outside head.now.sizes.cells cell.0) number.0) }
-    ensures admitted { elim result [ Ok at ↦ (at.0.number ≡ number.0) × (at.1.number ≡ cell.0) × (at.1.number ≤ head.now.sizes.cells) × MayGoOn {V = V} (register_of V head.now t.now) at.0.number | Err _ ↦ Unit {0} ] }
-{
-    wrong_table(head.sizes, t)?;
-    let crew = Crew::of(number, head.sizes).ok_or(Refusal::NoCrew)?;
-    let known = Cell::of(cell, head.sizes).ok_or(Refusal::NoCell)?;
-    can_go_on(head, t, crew)?;
-    Ok((crew, known))
+    // The crew that may go on with its job at the cell, and the cell, or the first test that refuses the call.
+    pub fn admit_at(&self, number: CrewNumber, cell: CellNumber) -> Result<(Crew, Cell), Refusal>
+        ensures answer { result_err result ≡ first_refusal (job_tests {V = V} self.now (outside self.now.head.sizes.cells cell.0) number.0) }
+        ensures admitted { elim result [ Ok at ↦ (at.0.number ≡ number.0) × (at.1.number ≡ cell.0) × (at.1.number ≤ self.now.head.sizes.cells) × MayGoOn {V = V} self.now at.0.number | Err _ ↦ Unit {0} ] }
+    {
+        wrong_table(self.head.sizes, self.tables)?;
+        let crew = Crew::of(number, self.head.sizes).ok_or(Refusal::NoCrew)?;
+        let known = Cell::of(cell, self.head.sizes).ok_or(Refusal::NoCell)?;
+        self.can_go_on(crew)?;
+        Ok((crew, known))
+    }
 }

@@ -5,8 +5,8 @@ ghost use Rattle.admission.specs.Lent.{CallPerformed};
 ghost use Rattle.cell_calls.specs.declared.reading.Shown.TheVariants.{Own, Stored};
 
 use admission::flags::{is_written, with_read};
-use admission::looking::{record_of, spot};
-use admission::refusing::admit_at;
+use admission::looking::spot;
+use admission::view::View;
 use choosers::chooser::Chooser;
 use endings::ending::abandon_job;
 use rules::calls::Answer;
@@ -55,13 +55,14 @@ pub fn read<V: Copy, C: Chooser>(
     ensures same { Same V t.new t.old }
     ensures performed { CallPerformed V head.old t.old (C.Chooser.meaning chooser.old) (Reading crew cell) result head.new t.new (C.Chooser.meaning chooser.new) }
 {
-    let (known, at) = admit_at(head, t, crew, cell)?;
+    let view = View::new(head, t);
+    let (known, at) = view.admit_at(crew, cell)?;
     let k = spot(head.sizes, known, at);
     let i = at.number - 1;
     if is_written(t.flags[k]) {
         return Ok(Answer::Told(told(t, Shown::Own(k))));
     }
-    let job = record_of(t, known);
+    let job = view.record_of(known);
     let low = job.low.max(Place(t.written[i]));
     if job.high.0 - 2 < low.0 {
         return Err(Refusal::Stale(abandon_job(head, t, chooser, known)));

@@ -4,7 +4,7 @@ ghost use Rattle.admission.specs.Lent.{CallPerformed};
 
 use admission::flags::with_written;
 use admission::looking::spot;
-use admission::refusing::admit_at;
+use admission::view::View;
 use choosers::chooser::Chooser;
 use rules::calls::Answer;
 use rules::head::Started;
@@ -24,7 +24,7 @@ pub fn write<V: Copy, C: Chooser>(
     ensures same { Same V t.new t.old }
     ensures performed { CallPerformed V head.old t.old (C.Chooser.meaning chooser.old) (Writing crew cell value) result head.new t.new (C.Chooser.meaning chooser.new) }
 {
-    let (known, at) = admit_at(head, t, crew, cell)?;
+    let (known, at) = View::new(head, t).admit_at(crew, cell)?;
     let k = spot(head.sizes, known, at);
     t.own[k] = value;
     t.flags[k] = with_written(t.flags[k]);

@@ -6,8 +6,8 @@ ghost use Rattle.commits.specs.Committing.{MayCommit, CommittedAt};
 
 use crate::lowering::lower_highs;
 use crate::storing::{set_written_places, store_values};
-use admission::looking::record_of;
 use admission::numbered::Crew;
+use admission::view::View;
 use choosers::chooser::Chooser;
 use endings::ending::{end_job, entry_of};
 use rules::head::Started;
@@ -35,7 +35,7 @@ pub fn commit_job<V: Copy, C: Chooser>(
     ensures same { Same V t.new t.old }
     ensures committed { MayCommit {V = V} (register_of V head.old t.old) crew.number low.0 → (d : V) → CommittedAt {V = V} d (register_of V head.old t.old) (C.Chooser.meaning chooser.old) crew.number result.0 (register_of V head.new t.new) (C.Chooser.meaning chooser.new) }
 {
-    let job = record_of(t, crew);
+    let job = View::new(head, t).record_of(crew);
     let place = commit_place(chooser, low, job.high);
     store_values(head, t, crew);
     set_written_places(head, t, crew, place);

@@ -4,8 +4,8 @@ ghost use Rattle.rules.specs.Tables.{each};
 ghost use Rattle.rules.specs.Registers.{register_of};
 ghost use Rattle.commits.specs.Committing.{with_jobs, lowered_record};
 
-use admission::looking::record_of;
 use admission::numbered::Crew;
+use admission::view::View;
 use bounds::readers::is_other_reader;
 use endings::closing::put_record;
 use rules::head::Started;
@@ -20,8 +20,9 @@ pub fn lower_highs<V>(head: &Started, t: &mut Tables<'_, V>, crew: Crew, place: 
 {
     for i in 0..head.sizes.crews {
         let other = Crew { number: i + 1 };
-        if is_other_reader(head, t, crew, other) {
-            let job = record_of(t, other);
+        let view = View::new(head, t);
+        if is_other_reader(&view, crew, other) {
+            let job = view.record_of(other);
             let high = job.high.min(place);
             put_record(t.jobs, i, JobRecord { high, ..job });
         }

@@ -5,8 +5,9 @@ ghost use Rattle.rules.specs.Registers.{register_of};
 ghost use Rattle.admission.specs.Lent.{AllFit};
 ghost use Rattle.commits.specs.Committing.{with_values, with_written_places, stored_value, written_place};
 
-use admission::looking::{has_written, spot};
+use admission::looking::spot;
 use admission::numbered::{Cell, Crew};
+use admission::view::View;
 use rules::head::Started;
 use rules::tables::Tables;
 use terms::numbers::Place;
@@ -18,7 +19,7 @@ pub fn store_values<V: Copy>(head: &Started, t: &mut Tables<'_, V>, crew: Crew)
 {
     for i in 0..head.sizes.cells {
         let own = spot(head.sizes, crew, Cell { number: i + 1 });
-        if has_written(head, t, crew, i) && own < t.own.len() && i < t.values.len() {
+        if View::new(head, t).has_written(crew, i) && own < t.own.len() && i < t.values.len() {
             t.values[i] = t.own[own];
         }
     }
@@ -30,7 +31,7 @@ pub fn set_written_places<V>(head: &Started, t: &mut Tables<'_, V>, crew: Crew, 
     ensures step { register_of V head.now t.new ≡ with_written_places {V = V} (register_of V head.now t.old) (each (written_place {V = V} crew.number place.0 (register_of V head.now t.old)) t.old.written.now) }
 {
     for i in 0..t.written.len() {
-        if has_written(head, t, crew, i) {
+        if View::new(head, t).has_written(crew, i) {
             t.written[i] = place.0;
         }
     }

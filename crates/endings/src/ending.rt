@@ -8,8 +8,9 @@ ghost use Rattle.endings.specs.Endings.{ended_at, MayEnd, AbandonedAt};
 use crate::book::insert;
 use crate::closing::{clear_row, count_ended, put_record};
 use crate::reads::raise_reads;
-use admission::looking::{record_of, row};
+use admission::looking::row;
 use admission::numbered::Crew;
+use admission::view::View;
 use choosers::chooser::Chooser;
 use rules::head::Started;
 use rules::tables::Tables;
@@ -53,7 +54,7 @@ pub fn abandon_job<V, C: Chooser>(
     ensures same { Same V t.new t.old }
     ensures abandoned { MayGoOn {V = V} (register_of V head.old t.old) crew.number → AbandonedAt {V = V} (register_of V head.old t.old) (C.Chooser.meaning chooser.old) crew.number result.0 (register_of V head.new t.new) (C.Chooser.meaning chooser.new) }
 {
-    let job = record_of(t, crew);
+    let job = View::new(head, t).record_of(crew);
     let place = chooser.choose(job.low, job.high);
     end_job(head, t, crew, entry_of(job, crew, place, Ending::Abandoned));
     place

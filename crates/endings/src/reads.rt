@@ -4,8 +4,8 @@ ghost use Rattle.rules.specs.JobCalls.{raised_reads};
 ghost use Rattle.rules.specs.Registers.{register_of};
 ghost use Rattle.endings.specs.Endings.{with_reads};
 
-use admission::looking::has_read;
 use admission::numbered::Crew;
+use admission::view::View;
 use rules::head::Started;
 use rules::tables::Tables;
 use terms::numbers::Place;
@@ -16,7 +16,7 @@ pub fn raise_reads<V>(head: &Started, t: &mut Tables<'_, V>, crew: Crew, place: 
     ensures step { register_of V head.now t.new ≡ with_reads {V = V} (register_of V head.now t.old) (raised_reads {V = V} (register_of V head.now t.old) crew.number place.0) }
 {
     for i in 0..t.read.len() {
-        if has_read(head, t, crew, i) {
+        if View::new(head, t).has_read(crew, i) {
             t.read[i] = t.read[i].max(place.0);
         }
     }

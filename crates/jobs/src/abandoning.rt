@@ -2,7 +2,7 @@ ghost use Rattle.rules.specs.declared.calls.Call.TheVariants.{Abandon as Abandon
 ghost use Rattle.rules.specs.Contents.{Same};
 ghost use Rattle.admission.specs.Lent.{CallPerformed};
 
-use admission::refusing::admit;
+use admission::view::View;
 use choosers::chooser::Chooser;
 use endings::ending::abandon_job;
 use rules::calls::Answer;
@@ -21,6 +21,6 @@ pub fn abandon<V: Copy, C: Chooser>(
     ensures same { Same V t.new t.old }
     ensures performed { CallPerformed V head.old t.old (C.Chooser.meaning chooser.old) (Abandoning crew) result head.new t.new (C.Chooser.meaning chooser.new) }
 {
-    let admitted = admit(head, t, crew)?;
+    let admitted = View::new(head, t).admit(crew)?;
     Ok(Answer::Ended(abandon_job(head, t, chooser, admitted)))
 }

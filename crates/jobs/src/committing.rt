@@ -2,8 +2,7 @@ ghost use Rattle.rules.specs.declared.calls.Call.TheVariants.{Commit as Committi
 ghost use Rattle.rules.specs.Contents.{Same};
 ghost use Rattle.admission.specs.Lent.{CallPerformed};
 
-use admission::looking::record_of;
-use admission::refusing::admit;
+use admission::view::View;
 use bounds::low::commit_low;
 use choosers::chooser::Chooser;
 use commits::committing::commit_job;
@@ -25,9 +24,10 @@ pub fn commit<V: Copy, C: Chooser>(
     ensures same { Same V t.new t.old }
     ensures performed { CallPerformed V head.old t.old (C.Chooser.meaning chooser.old) (Committing crew) result head.new t.new (C.Chooser.meaning chooser.new) }
 {
-    let admitted = admit(head, t, crew)?;
-    let high = record_of(t, admitted).high.0;
-    let low = commit_low(head, t, admitted);
+    let view = View::new(head, t);
+    let admitted = view.admit(crew)?;
+    let high = view.record_of(admitted).high.0;
+    let low = commit_low(&view, admitted);
     if u128::from(high - 2) < low {
         return Err(Refusal::NoPlace(abandon_job(head, t, chooser, admitted)));
     }

@@ -2,7 +2,7 @@ ghost use Rattle.rules.specs.declared.calls.Call.TheVariants.{Open as Opening};
 ghost use Rattle.rules.specs.Contents.{Same};
 ghost use Rattle.admission.specs.Lent.{CallPerformed};
 
-use admission::refusing::admit_opening;
+use admission::view::View;
 use choosers::chooser::Chooser;
 use rules::calls::Answer;
 use rules::head::Started;
@@ -22,7 +22,7 @@ pub fn open<V: Copy, C: Chooser>(
     ensures same { Same V t.new t.old }
     ensures performed { CallPerformed V head.old t.old (C.Chooser.meaning chooser.old) (Opening crew) result head.new t.new (C.Chooser.meaning chooser.new) }
 {
-    let admitted = admit_opening(head, t, crew)?;
+    let admitted = View::new(head, t).admit_opening(crew)?;
     let job = JobNumber((head.ended + head.active + 1) as u64);
     t.jobs[admitted.number - 1] = JobRecord {
         standing: Standing::Open,

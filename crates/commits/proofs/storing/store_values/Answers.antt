@@ -1,4 +1,4 @@
-use Rattle.std.proofs.Common.{◌≡◌, suc, length, get_or, set, sym, refl, ap, ◌∙◌, add-one, arith, rules}
+use Rattle.std.proofs.Common.{◌≡◌, suc, ◌+◌, length, get_or, set, sym, refl, ap, ◌∙◌, add-one, arith, rules}
 use Rattle.std.proofs.lemmas.List.{get_or_default, set_past}
 use Rattle.rules.specs.Tables.{spot}
 use Rattle.rules.specs.Registers.{has_written, register_of}
@@ -12,16 +12,17 @@ loop-i-preserved g c = (
   search rules,
   λ fits crew d.
       let a = register_of _ c.args.head.now c.loop-i.t in
+      let told = c.has_written.ensures ∙ ap (λ r. has_written r c.args.crew.number (c.loop-i.i + 1)) c.new.ensures in
       let so_far = c.loop-i.invariant.1 fits crew d in
       let own-long = ap (λ r. length r.tables.own) so_far in
       let step : register_of _ c.args.head.now c.if-has_written.t ≡ with_values a (set c.loop-i.t.values.now c.loop-i.i (stored_value d c.args.crew.number a (suc c.loop-i.i) (get_or c.loop-i.t.values.now c.loop-i.i d))) = elim c.if-has_written.branch [
         | then-has_written+then-own-t+then-i-t w ↦
             let own = get_or_default c.loop-i.t.own.now c.spot-own.result w.index-t-own.result d w.if-own-t.true ∙ ap (λ k. get_or c.loop-i.t.own.now k d) (c.spot-own.ensures.is ∙ ap (spot c.args.head.now.sizes.cells c.args.crew.number) (add-one c.loop-i.i)) in
-            ap (register_of _ c.args.head.now) w.t-is ∙ (ap (λ x. with_values a (set c.loop-i.t.values.now c.loop-i.i x)) own ∙ changed (with_values a) (has_written a c.args.crew.number) c.loop-i.i _ c.has_written.ensures _ _ d w.if-has_written.true)
+            ap (register_of _ c.args.head.now) w.t-is ∙ (ap (λ x. with_values a (set c.loop-i.t.values.now c.loop-i.i x)) own ∙ changed (with_values a) (has_written a c.args.crew.number) c.loop-i.i _ told _ _ d w.if-has_written.true)
         | else-has_written w ↦ ap (register_of _ c.args.head.now) w.t-is ∙ elim w.else-has_written.branch [
           | else-has_written-via-then-has_written+then-own-t+else-i-t v ↦ ap (with_values a) (sym (set_past _ _ _ v.if-i-t.false))
           | else-has_written-via-then-has_written+else-own-t v ↦ absurd (omega (arith, v.if-own-t.false, own-long, fits.own, c.spot-own.ensures.within crew (omega arith)))
-          | else-has_written-via-else-has_written v ↦ kept (with_values a) (has_written a c.args.crew.number) c.loop-i.i _ c.has_written.ensures _ _ d v.if-has_written.false
+          | else-has_written-via-else-has_written v ↦ kept (with_values a) (has_written a c.args.crew.number) c.loop-i.i _ told _ _ d v.if-has_written.false
         ]
       ] in
       turn_more with_values (λ r. r.tables.values) (stored_value d c.args.crew.number) d (register_of _ c.args.head.now c.args.t.now) a (register_of _ c.args.head.now c.if-has_written.t) c.loop-i.i so_far (λ xs q. refl) step,

@@ -13,9 +13,12 @@ returns-then-from-low-clause-performed g c = λ d.
     let f = g.C.Chooser.meaning c.args.chooser.now in
     let f' = g.C.Chooser.meaning c.abandon_job.new.chooser in
     let w = c.in_ok-admitted.admitted.number in
-    let known = c.in_ok-admitted.ensures.admitted in
-    let full : high_of r w < commit_low r w + 2 = omega (arith, ap (λ j. j.high.0) c.record_of-high.ensures, c.commit_low-low.ensures, c.from.ensures, c.if-from-low.true) in
-    commit_abandons d r r' f f' c.args.crew c.abandon_job.result c.in_ok-admitted.ensures.answer
+    let passed = rw c.new-view.ensures at c.in_ok-admitted.ensures.answer in
+    let known = rw c.new-view.ensures at c.in_ok-admitted.ensures.admitted in
+    let high = rw c.new-view.ensures at c.record_of-high.ensures in
+    let low = rw c.new-view.ensures at c.commit_low-low.ensures in
+    let full : high_of r w < commit_low r w + 2 = omega (arith, ap (λ j. j.high.0) high, low, c.from.ensures, c.if-from-low.true) in
+    commit_abandons d r r' f f' c.args.crew c.abandon_job.result passed
     (subst (λ (n : ℕ). high_of r n < commit_low r n + 2) known.0 full)
     (subst (λ (n : ℕ). AbandonedAt r f n c.abandon_job.result.0 r' f') known.0 (c.abandon_job.ensures.abandoned known.1))
 
@@ -26,8 +29,11 @@ returns-clause-performed g c = λ d.
     let f = g.C.Chooser.meaning c.args.chooser.now in
     let f' = g.C.Chooser.meaning c.commit_job.new.chooser in
     let w = c.in_ok-admitted.admitted.number in
-    let known = c.in_ok-admitted.ensures.admitted in
-    let place-left : commit_low r w + 2 ≤ high_of r w = omega (arith, ap (λ j. j.high.0) c.record_of-high.ensures, c.commit_low-low.ensures, c.from.ensures, c.if-from-low.false, known.1.room) in
-    commit_stores d r r' f f' c.args.crew c.commit_job.result c.in_ok-admitted.ensures.answer
+    let passed = rw c.new-view.ensures at c.in_ok-admitted.ensures.answer in
+    let known = rw c.new-view.ensures at c.in_ok-admitted.ensures.admitted in
+    let high = rw c.new-view.ensures at c.record_of-high.ensures in
+    let low = rw c.new-view.ensures at c.commit_low-low.ensures in
+    let place-left : commit_low r w + 2 ≤ high_of r w = omega (arith, ap (λ j. j.high.0) high, low, c.from.ensures, c.if-from-low.false, known.1.room) in
+    commit_stores d r r' f f' c.args.crew c.commit_job.result passed
     (subst (λ (n : ℕ). commit_low r n + 2 ≤ high_of r n) known.0 place-left)
-    (subst (λ (n : ℕ). CommittedAt d r f n c.commit_job.result.0 r' f') known.0 (c.commit_job.ensures.committed (record { goes_on = known.1; bound = c.commit_low-low.ensures; room = omega (arith, c.commit_low-low.ensures, place-left) }) d))
+    (subst (λ (n : ℕ). CommittedAt d r f n c.commit_job.result.0 r' f') known.0 (c.commit_job.ensures.committed (record { goes_on = known.1; bound = low; room = omega (arith, low, place-left) }) d))
