@@ -1,6 +1,9 @@
 ghost use Rattle.std.specs.Prelude.{◌≡◌};
 ghost use Rattle.rules.specs.Tables.{read_flag, written_flag, with_read, with_written};
 
+// A flag is a byte of a lent table. Two functions for each of its two bits, as the rules name them apart: one over an enum of
+// the two would have a case for each in every clause.
+
 // The bit of a flag for 'read first-hand'.
 const READ: u8 = 1;
 

@@ -33,6 +33,8 @@ impl<const MOST: usize> Numbered<MOST> {
     }
 }
 
+// Two functions `of`, since a crew's number and a cell's are two types and go with two sizes.
+
 impl Numbered<32> {
     // The crew of this number; none where it is 0 or over the count of crews.
     pub fn of(number: CrewNumber, sizes: Sizes) -> Option<Crew>

@@ -77,7 +77,7 @@ impl<'a, 't, V> View<'a, 't, V> {
         t.flags.get(k).copied().unwrap_or(0)
     }
 
-    // The crew's job has read the cell `i`, counted from 0, first-hand.
+    // The crew's job has read the cell `i`, counted from 0, first-hand. It and `has_written` are two, as the two flags are.
     pub fn has_read(&self, crew: Crew, i: usize) -> bool
         ensures { result ≡ has_read self.now crew.number (i + 1) }
     {

@@ -18,6 +18,7 @@ pub fn lower_highs<V>(head: &Started, t: &mut Tables<'_, V>, crew: Crew, place: 
     ensures same { Same V t.new t.old }
     ensures step { length t.old.jobs.now ≡ head.now.sizes.crews → register_of V head.now t.new ≡ with_jobs {V = V} (register_of V head.now t.old) (each (lowered_record {V = V} crew.number place.0 (register_of V head.now t.old)) t.old.jobs.now) }
 {
+    // By number: the view of a reader holds all tables, so that no iterator may hold the records beside it.
     for i in 0..head.sizes.crews {
         let other = Crew { number: i + 1 };
         let view = View::new(head, t);

@@ -22,6 +22,7 @@ pub fn clear_row(flags: &mut [u8], from: usize, count: usize)
 pub fn put_record(jobs: &mut [JobRecord], i: usize, job: JobRecord)
     ensures { jobs.new ≡ slice_set jobs.old i job }
 {
+    // By index: what is stored through `get_mut` stays open in the proof.
     if i < jobs.len() {
         jobs[i] = job;
     }

@@ -15,6 +15,7 @@ pub fn raise_reads<V>(head: &Started, t: &mut Tables<'_, V>, crew: Crew, place: 
     ensures same { Same V t.new t.old }
     ensures step { register_of V head.now t.new ≡ with_reads {V = V} (register_of V head.now t.old) (raised_reads {V = V} (register_of V head.now t.old) crew.number place.0) }
 {
+    // By number: the view of a flag holds all tables, so that no iterator may hold this one beside it.
     for i in 0..t.read.len() {
         if View::new(head, t).has_read(crew, i) {
             t.read[i] = t.read[i].max(place.0);

@@ -12,7 +12,7 @@ use rules::head::Started;
 use rules::tables::Tables;
 use terms::refusals::Refusal;
 
-// Makes any job call.
+// Makes any job call. By a rule of the register each is handed head, tables and chooser; the match is on which call it is.
 pub fn perform<V: Copy, C: Chooser>(
     head: &mut Started,
     t: &mut Tables<'_, V>,

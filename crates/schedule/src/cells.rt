@@ -36,6 +36,7 @@ pub(crate) fn fill_cells<'a, K: Kind>(
     ensures read { elim result [ Ok rest ↦ FilledTo K.form (lines_of text.now) head.old.sizes.cells (filling_of head.new) (contents_of K t.new) reader.new (lines_of rest.now) | Err bad ↦ at_cells K.form head.old.sizes.cells 3 [] (lines_of text.now) ≡ bad_line bad ] }
 {
     let mut rest = text;
+    // The line's number is told of a bad line.
     for number in 3..3 + head.sizes.cells {
         // A closure, since the check does not take a generic function by its name here.
         let (value, after) = read_next(reader, number, rest, |line| read_cell(line))?;
