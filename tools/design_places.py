@@ -121,7 +121,7 @@ def in_heads(pattern):
 def point_1():
     print("1 Option and Result")
     n = found("error-option", "a function that answers an Option for an error", in_heads(r"-> Option<(Refusal|BadField|BadLine)>"))
-    handed = r"(?:else \{\s*return Err\()|(?:(?:None|Some\(\w+\)|Err\(\w+\)) => (?:return )?Err\()|(?:if let Some\(\w+\) = [^{]*\{\s*return Err\()"
+    handed = r"(?:else \{\s*return Err\()|(?:(?:None|Some\(\w+\)|Err\(\w+\)) => (?:return )?Err\()|(?:if let (?:Some|Err)\(\w+\) = [^{]*\{\s*return Err\()"
     n += found("handed-on", "an error or a missing value handed on by a match, an if or a let-else", in_bodies(handed))
     n += found("flag", "a bool parameter or field beside the value that it governs", in_heads(r"\w+: bool") + [f"{file} {m}" for file, text in SOURCES for m in re.findall(r"(?m)^    (?:pub )?(\w+): bool,", bare(text))])
     n += found("number-of", "an enum turned into numbers or letters by a match", [f.place() for f in FUNCTIONS if len(re.findall(r"\w+::\w+(?:\(_\))? => (?:\d+|b?'.'),", f.body)) > 1])
@@ -164,7 +164,7 @@ def point_3():
     print("3 Loops")
     n = found("while", "a while loop", in_bodies(r"\bwhile\b"))
     n += found("index", "a for over a range of numbers", in_bodies(r"\bfor (?!_)\w+ in [^{]*\.\.[^{]*\{"))
-    n += found("one-step", "a loop of one statement, or of a search, for which the library has a method", [f.place() for f in FUNCTIONS if re.search(r"for [^{]* in [^{.]*(?:\.iter\(\)|\.iter_mut\(\)|\.enumerate\(\))*\s*\{\s*(?:if [^{]*\{\s*)?[^;{}]*;\s*\}", f.body)])
+    n += found("method", "a loop that fills, finds or counts, for which the library has a method", [f.place() for f in FUNCTIONS if re.search(r"for [^{;]* in [^{;]*\{\s*(?:\*\w+ = [^;]*;|if [^{]*\{\s*(?:return [^;]*;|\w+ \+= 1;)\s*\})\s*\}", f.body)])
     n += found("recursion", "a function that calls itself", [f.place() for f in FUNCTIONS if re.search(rf"(?<![\w.:]){f.name}\(", f.body)])
     return n
 
