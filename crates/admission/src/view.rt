@@ -51,20 +51,15 @@ impl<'a, 't, V> View<'a, 't, V> {
             .unwrap_or(JobRecord::closed())
     }
 
-    // The written place of the cell `i`, counted from 0; past the table's end it is 0.
-    pub fn written_place(&self, i: usize) -> u64
-        ensures { result ≡ at self.now.tables.written (i + 1) 0 }
+    // The written and the read place of the cell `i`, counted from 0; past a table's end it is 0.
+    pub fn places(&self, i: usize) -> (u64, u64)
+        ensures written { result.0 ≡ at self.now.tables.written (i + 1) 0 }
+        ensures read { result.1 ≡ at self.now.tables.read (i + 1) 0 }
     {
         let t: &Tables<'_, V> = self.tables;
-        t.written.get(i).copied().unwrap_or(0)
-    }
-
-    // The read place of the cell `i`, counted from 0; past the table's end it is 0.
-    pub fn read_place(&self, i: usize) -> u64
-        ensures { result ≡ at self.now.tables.read (i + 1) 0 }
-    {
-        let t: &Tables<'_, V> = self.tables;
-        t.read.get(i).copied().unwrap_or(0)
+        let written = t.written.get(i).copied().unwrap_or(0);
+        let read = t.read.get(i).copied().unwrap_or(0);
+        (written, read)
     }
 
     // The flag of a crew at the cell `i`, counted from 0; past the table's end it is 0. A sum that would be over

@@ -11,7 +11,8 @@ fn cell_bound<V>(view: &View<'_, '_, V>, crew: Crew, i: usize) -> u64
     ensures { result ≡ cell_bound view.now crew.number (i + 1) }
 {
     if view.has_written(crew, i) {
-        view.written_place(i).max(view.read_place(i))
+        let (written, read) = view.places(i);
+        written.max(read)
     } else {
         0
     }

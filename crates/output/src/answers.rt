@@ -12,7 +12,7 @@ use values::kinds::Kind;
 fn fields_of<K: Kind>(value: &K) -> ArrayVec<u64, 64>
     ensures { result.items ≡ K.form.fields value.now }
 {
-    // Fields go by number.
+    // Fields go by number, and the library's `collect` asks for an allocator.
     let mut fields = ArrayVec::new();
     for i in 0..K::count() {
         fields.push(value.field(i));

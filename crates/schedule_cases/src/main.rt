@@ -14,12 +14,9 @@ use text::{number, read_line};
 fn case_end(text: &[u8]) -> usize
     ensures { result ≤ length text.now }
 {
-    for (i, pair) in text.windows(2).enumerate() {
-        if pair[0] == b'\n' && pair[1] == b'#' {
-            return i;
-        }
-    }
-    text.len().saturating_sub(1)
+    text.windows(2)
+        .position(|pair| pair == b"\n#".as_slice())
+        .unwrap_or(text.len().saturating_sub(1))
 }
 
 // The first case of an input behind its `#`, and the input from the next `#` on.
@@ -54,6 +51,7 @@ fn main(rt: HostRuntime) -> io::Result<()> {
     rt.stdin().read_to_end(&mut text)?;
     let mut paper = vec![in rt.alloc(); 0; 65_536]?;
     let mut rest = text.as_slice();
+    // Cases are numbered from 1.
     for k in 1..100_000u32 {
         if rest.is_empty() {
             break;
