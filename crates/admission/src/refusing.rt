@@ -26,8 +26,8 @@ fn unsound(low: u64, high: u64, active: usize) -> bool
 impl<V> View<'_, '_, V> {
     // The crew that may open a job, or the first test that refuses the call.
     pub fn admit_opening(&self, number: CrewNumber) -> Result<Crew, Refusal>
-        ensures answer { result_err result ≡ first_refusal (tests_of {V = V} self.now (Opening number)) }
-        ensures admitted { elim result [ Ok w ↦ (w.number ≡ number.0) × MayOpen {V = V} self.now w.number | Err _ ↦ Unit {0} ] }
+        ensures answer { result_err result ≡ first_refusal (tests_of self.now (Opening number)) }
+        ensures admitted { elim result [ Ok w ↦ (w.number ≡ number.0) × MayOpen self.now w.number | Err _ ↦ Unit {0} ] }
     {
         wrong_table(self.head.sizes, self.tables)?;
         let crew = Crew::of(number, self.head.sizes).ok_or(Refusal::NoCrew)?;
@@ -60,8 +60,8 @@ impl<V> View<'_, '_, V> {
 
     // The crew that may go on with its job, or the first test that refuses the call.
     pub fn admit(&self, number: CrewNumber) -> Result<Crew, Refusal>
-        ensures answer { result_err result ≡ first_refusal (job_tests {V = V} self.now no number.0) }
-        ensures admitted { elim result [ Ok w ↦ (w.number ≡ number.0) × MayGoOn {V = V} self.now w.number | Err _ ↦ Unit {0} ] }
+        ensures answer { result_err result ≡ first_refusal (job_tests self.now no number.0) }
+        ensures admitted { elim result [ Ok w ↦ (w.number ≡ number.0) × MayGoOn self.now w.number | Err _ ↦ Unit {0} ] }
     {
         wrong_table(self.head.sizes, self.tables)?;
         let crew = Crew::of(number, self.head.sizes).ok_or(Refusal::NoCrew)?;
@@ -71,8 +71,8 @@ impl<V> View<'_, '_, V> {
 
     // The crew that may go on with its job at the cell, and the cell, or the first test that refuses the call.
     pub fn admit_at(&self, number: CrewNumber, cell: CellNumber) -> Result<(Crew, Cell), Refusal>
-        ensures answer { result_err result ≡ first_refusal (job_tests {V = V} self.now (outside self.now.head.sizes.cells cell.0) number.0) }
-        ensures admitted { elim result [ Ok at ↦ (at.0.number ≡ number.0) × (at.1.number ≡ cell.0) × (at.1.number ≤ self.now.head.sizes.cells) × MayGoOn {V = V} self.now at.0.number | Err _ ↦ Unit {0} ] }
+        ensures answer { result_err result ≡ first_refusal (job_tests self.now (outside self.now.head.sizes.cells cell.0) number.0) }
+        ensures admitted { elim result [ Ok at ↦ (at.0.number ≡ number.0) × (at.1.number ≡ cell.0) × (at.1.number ≤ self.now.head.sizes.cells) × MayGoOn self.now at.0.number | Err _ ↦ Unit {0} ] }
     {
         wrong_table(self.head.sizes, self.tables)?;
         let crew = Crew::of(number, self.head.sizes).ok_or(Refusal::NoCrew)?;

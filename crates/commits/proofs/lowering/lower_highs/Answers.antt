@@ -1,6 +1,6 @@
 use Rattle.std.proofs.Common.{◌≡◌, ℕ, suc, ◌+◌, ◌-◌, get_or, set, ap, ◌∙◌, arith, rules}
 use Rattle.rules.specs.Contents.{closed_record}
-use Rattle.rules.specs.Registers.{record_of, register_of}
+use Rattle.rules.specs.Registers.{register_of}
 use Rattle.rules.specs.JobCalls.{other_reader, lowered}
 use Rattle.endings.proofs.Turns.{turn_more, turn_all, changed, kept}
 use Rattle.commits.specs.Committing.{with_jobs, lowered_record}
@@ -11,11 +11,11 @@ use Rattle.commits.proofs.lowering.lower_highs.Goals.{then-is_other_reader, else
 pub loop-i-preserved : goal.loop-i-preserved
 loop-i-preserved g c =
     let a = register_of _ c.args.head.now c.loop-i.t in
-    let told = c.is_other_reader.ensures ∙ ap (λ r. other_reader r c.args.crew.number (c.loop-i.i + 1)) c.new-view.ensures in
+    let told = rw c.new-view.ensures at c.is_other_reader.ensures in
     let step : register_of _ c.args.head.now c.if-is_other_reader.t ≡ with_jobs a (set c.loop-i.t.jobs.now c.loop-i.i (lowered_record c.args.crew.number c.args.place.0 a (suc c.loop-i.i) (get_or c.loop-i.t.jobs.now c.loop-i.i closed_record))) = elim c.if-is_other_reader.branch [
       | then-is_other_reader w ↦
           let e : c.loop-i.i + 1 - 1 ≡ c.loop-i.i = omega arith in
-          let job = w.record_of-job.ensures ∙ (ap (λ r. record_of r (c.loop-i.i + 1)) c.new-view.ensures ∙ ap (λ (k : ℕ). get_or c.loop-i.t.jobs.now k closed_record) e) in
+          let job = (rw c.new-view.ensures at w.record_of-job.ensures) ∙ ap (λ (k : ℕ). get_or c.loop-i.t.jobs.now k closed_record) e in
           let new : record { standing = w.record_of-job.result.standing; job = w.record_of-job.result.job; low = w.record_of-job.result.low; high = w.min-high.result } ≡ lowered c.args.place.0 (get_or c.loop-i.t.jobs.now c.loop-i.i closed_record) = search rules in
           ap (register_of _ c.args.head.now) w.t-is ∙ (ap (with_jobs a) (w.put_record.ensures ∙ ap (set c.loop-i.t.jobs.now c.loop-i.i) new) ∙ changed (with_jobs a) (other_reader a c.args.crew.number) c.loop-i.i _ told _ _ closed_record w.if-is_other_reader.true)
       | else-is_other_reader w ↦ ap (register_of _ c.args.head.now) w.t-is ∙ kept (with_jobs a) (other_reader a c.args.crew.number) c.loop-i.i _ told _ _ closed_record w.if-is_other_reader.false

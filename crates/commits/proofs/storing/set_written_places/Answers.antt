@@ -1,4 +1,4 @@
-use Rattle.std.proofs.Common.{◌≡◌, suc, ◌+◌, length, get_or, set, refl, ap, ◌∙◌, arith, rules}
+use Rattle.std.proofs.Common.{◌≡◌, suc, length, get_or, set, refl, ap, ◌∙◌, arith, rules}
 use Rattle.std.proofs.lemmas.List.{length-set}
 use Rattle.rules.specs.Registers.{has_written, register_of}
 use Rattle.endings.proofs.Turns.{turn_more, turn_all, changed, kept}
@@ -9,7 +9,7 @@ use Rattle.commits.proofs.storing.set_written_places.Goals.{then-has_written, el
 pub loop-i-preserved : goal.loop-i-preserved
 loop-i-preserved g c =
     let a = register_of _ c.args.head.now c.loop-i.t in
-    let told = c.has_written.ensures ∙ ap (λ r. has_written r c.args.crew.number (c.loop-i.i + 1)) c.new.ensures in
+    let told = rw c.new.ensures at c.has_written.ensures in
     let step : register_of _ c.args.head.now c.if-has_written.t ≡ with_written_places a (set c.loop-i.t.written.now c.loop-i.i (written_place c.args.crew.number c.args.place.0 a (suc c.loop-i.i) (get_or c.loop-i.t.written.now c.loop-i.i 0))) = elim c.if-has_written.branch [
       | then-has_written w ↦ ap (register_of _ c.args.head.now) w.t-is ∙ changed (with_written_places a) (has_written a c.args.crew.number) c.loop-i.i _ told _ _ 0 w.if-has_written.true
       | else-has_written w ↦ ap (register_of _ c.args.head.now) w.t-is ∙ kept (with_written_places a) (has_written a c.args.crew.number) c.loop-i.i _ told _ _ 0 w.if-has_written.false

@@ -1,4 +1,4 @@
-use Rattle.std.proofs.Common.{◌≡◌, suc, ◌+◌, length, get_or, set, sym, refl, ap, ◌∙◌, add-one, arith, rules}
+use Rattle.std.proofs.Common.{◌≡◌, suc, length, get_or, set, sym, refl, ap, ◌∙◌, add-one, arith, rules}
 use Rattle.std.proofs.lemmas.List.{get_or_default, set_past}
 use Rattle.rules.specs.Tables.{spot}
 use Rattle.rules.specs.Registers.{has_written, register_of}
@@ -12,7 +12,7 @@ loop-i-preserved g c = (
   search rules,
   λ fits crew d.
       let a = register_of _ c.args.head.now c.loop-i.t in
-      let told = c.has_written.ensures ∙ ap (λ r. has_written r c.args.crew.number (c.loop-i.i + 1)) c.new.ensures in
+      let told = rw c.new.ensures at c.has_written.ensures in
       let so_far = c.loop-i.invariant.1 fits crew d in
       let own-long = ap (λ r. length r.tables.own) so_far in
       let step : register_of _ c.args.head.now c.if-has_written.t ≡ with_values a (set c.loop-i.t.values.now c.loop-i.i (stored_value d c.args.crew.number a (suc c.loop-i.i) (get_or c.loop-i.t.values.now c.loop-i.i d))) = elim c.if-has_written.branch [

@@ -1,4 +1,4 @@
-use Rattle.std.proofs.Common.{◌≡◌, suc, ◌+◌, length, get_or, set, refl, ap, ◌∙◌, arith, rules}
+use Rattle.std.proofs.Common.{◌≡◌, suc, length, get_or, set, refl, ap, ◌∙◌, arith, rules}
 use Rattle.std.proofs.lemmas.List.{length-set}
 use Rattle.rules.specs.Registers.{has_read, register_of}
 use Rattle.endings.specs.Endings.{with_reads, raised_read}
@@ -9,7 +9,7 @@ use Rattle.endings.proofs.reads.raise_reads.Goals.{then-has_read, else-has_read}
 pub loop-i-preserved : goal.loop-i-preserved
 loop-i-preserved g c =
     let a = register_of _ c.args.head.now c.loop-i.t in
-    let told = c.has_read.ensures ∙ ap (λ r. has_read r c.args.crew.number (c.loop-i.i + 1)) c.new.ensures in
+    let told = rw c.new.ensures at c.has_read.ensures in
     let step : register_of _ c.args.head.now c.if-has_read.t ≡ with_reads a (set c.loop-i.t.read.now c.loop-i.i (raised_read c.args.crew.number c.args.place.0 a (suc c.loop-i.i) (get_or c.loop-i.t.read.now c.loop-i.i 0))) = elim c.if-has_read.branch [
       | then-has_read w ↦ ap (register_of _ c.args.head.now) w.t-is ∙ (ap (λ x. with_reads a (set c.loop-i.t.read.now c.loop-i.i x)) w.max.ensures ∙ changed (with_reads a) (has_read a c.args.crew.number) c.loop-i.i _ told _ _ 0 w.if-has_read.true)
       | else-has_read w ↦ ap (register_of _ c.args.head.now) w.t-is ∙ kept (with_reads a) (has_read a c.args.crew.number) c.loop-i.i _ told _ _ 0 w.if-has_read.false
