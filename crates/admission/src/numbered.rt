@@ -24,7 +24,7 @@ impl<const MOST: usize> Numbered<MOST> {
         requires { count ≤ MOST }
         ensures { elim result [ Some one ↦ (outside count number ≡ false) × (one.number ≡ number) × (one.number ≤ count) | None ↦ outside count number ≡ true ] }
     {
-        if number == 0 || (count as u64) < number {
+        if !(1..=count as u64).contains(&number) {
             return None;
         }
         Some(Numbered {
@@ -33,7 +33,7 @@ impl<const MOST: usize> Numbered<MOST> {
     }
 }
 
-// Two functions `of`, since a crew's number and a cell's are two types and go with two sizes.
+// Two functions `of`, since by a rule of the register a crew's number and a cell's are two types; they go with two sizes.
 
 impl Numbered<32> {
     // The crew of this number; none where it is 0 or over the count of crews.

@@ -20,9 +20,10 @@ use terms::refusals::Refusal;
 fn unsound(low: u64, high: u64, active: usize) -> bool
     ensures { result ≡ (nat_lt high (low + 2) || (nat_lt top high || active == 0)) }
 {
-    high < 2 || high - 2 < low || 1 << 62 < high || active == 0
+    high.saturating_sub(low) < 2 || 1 << 62 < high || active == 0
 }
 
+// The three that admit share their first two lines: a function for these would have a contract that is longer than they are.
 impl<V> View<'_, '_, V> {
     // The crew that may open a job, or the first test that refuses the call.
     pub fn admit_opening(&self, number: CrewNumber) -> Result<Crew, Refusal>

@@ -14,6 +14,7 @@ fn cell_bound<V>(view: &View<'_, '_, V>, crew: Crew, i: usize) -> u64
         let (written, read) = view.places(i);
         written.max(read)
     } else {
+        // as the rules have it: above 0 is above nothing
         0
     }
 }

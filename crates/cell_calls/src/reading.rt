@@ -23,7 +23,7 @@ enum Shown {
     Stored(usize),
 }
 
-// The one-element part of the table that has the shown value.
+// The one-element part of the table that has the shown value: one look-up hands it out, by a rule of the register.
 fn look_up<'b, V>(t: &'b Tables<'_, V>, shown: Shown) -> &'b [V]
     requires { elim shown [ Own k ↦ k < length t.now.own.now | Stored i ↦ i < length t.now.values.now ] }
     ensures one { length result.now ≡ 1 }

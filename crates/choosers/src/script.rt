@@ -33,8 +33,9 @@ impl Chooser for Script<'_> {
             return Place(low.0 + 1);
         };
         self.left = left;
-        if low.0 < *number && *number < high.0 {
-            Place(*number)
+        let place = Place(*number);
+        if low < place && place < high {
+            place
         } else {
             Place(low.0 + 1)
         }

@@ -5,7 +5,8 @@ ghost use Rattle.rules.specs.Performing.{Inserted};
 use terms::numbers::Place;
 use terms::records::Entry;
 
-// How many entries of the day book stay before one at the place: those up to the last that is not of a higher place.
+// How many entries of the day book stay before one at the place: those up to the last that is not of a higher place. It is
+// looked for from the end, near which most places go, and one by one, since those after it are moved one by one too.
 fn entries_before(day_book: &[Entry], place: Place) -> usize
     ensures within { result ≤ length day_book.now }
     ensures above { AllWithin (λ entry. place.0 < entry.place.0) day_book.now result (length day_book.now) }

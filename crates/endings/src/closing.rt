@@ -6,6 +6,7 @@ ghost use Rattle.rules.specs.JobCalls.{ended_head};
 use rules::head::Started;
 use terms::numbers::Place;
 use terms::records::JobRecord;
+use values::table::ValueTable;
 
 // Puts zeros for the flags of a row, which begins at `from` and has `count` flags; where the table has no such row
 // it is left as it is.
@@ -22,10 +23,7 @@ pub fn clear_row(flags: &mut [u8], from: usize, count: usize)
 pub fn put_record(jobs: &mut [JobRecord], i: usize, job: JobRecord)
     ensures { jobs.new ≡ slice_set jobs.old i job }
 {
-    // By index: what is stored through `get_mut` stays open in the proof.
-    if i < jobs.len() {
-        jobs[i] = job;
-    }
+    ValueTable::new(jobs).put(i, job);
 }
 
 // One job more has ended, at this place, and one less is open; a place over the top, or a head that counts no open job,

@@ -97,21 +97,14 @@ fn account<K: Sample, C: Chooser>(
     let mut own = vec![in rt.alloc(); K::blank(); CREWS * CELLS]?;
     let mut flags = vec![in rt.alloc(); 255; CREWS * CELLS]?;
     let mut book = vec![in rt.alloc(); ANY_ENTRY; ENTRIES]?;
-    let values = values.as_mut_slice();
-    let written = written.as_mut_slice();
-    let read = read.as_mut_slice();
-    let jobs = jobs.as_mut_slice();
-    let own = own.as_mut_slice();
-    let flags = flags.as_mut_slice();
-    let book = book.as_mut_slice();
     let mut t = Tables {
-        values,
-        written,
-        read,
-        jobs,
-        own,
-        flags,
-        book,
+        values: &mut values,
+        written: &mut written,
+        read: &mut read,
+        jobs: &mut jobs,
+        own: &mut own,
+        flags: &mut flags,
+        book: &mut book,
     };
     print_run(rt, first.as_slice(), &mut t, chooser, list.as_mut_slice())
 }

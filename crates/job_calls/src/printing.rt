@@ -17,37 +17,21 @@ fn print_fields<K: Kind>(rt: &HostRuntime, value: &K) -> io::Result<()> {
 // Prints a call as a schedule has it; the match is on what the call is.
 fn print_call<K: Kind>(rt: &HostRuntime, call: Call<K>) -> io::Result<()> {
     match call {
-        Call::Open { crew } => {
-            let crew = crew.0;
-            print!(rt; "O,{crew}")
-        }
-        Call::Read { crew, cell } => {
-            let (crew, cell) = (crew.0, cell.0);
-            print!(rt; "R,{crew},{cell}")
-        }
+        Call::Open { crew } => print!(rt; "O,{}", crew.0),
+        Call::Read { crew, cell } => print!(rt; "R,{},{}", crew.0, cell.0),
         Call::Write { crew, cell, value } => {
-            let (crew, cell) = (crew.0, cell.0);
-            print!(rt; "W,{crew},{cell}")?;
+            print!(rt; "W,{},{}", crew.0, cell.0)?;
             print_fields(rt, &value)
         }
-        Call::Commit { crew } => {
-            let crew = crew.0;
-            print!(rt; "C,{crew}")
-        }
-        Call::Abandon { crew } => {
-            let crew = crew.0;
-            print!(rt; "A,{crew}")
-        }
+        Call::Commit { crew } => print!(rt; "C,{}", crew.0),
+        Call::Abandon { crew } => print!(rt; "A,{}", crew.0),
     }
 }
 
 fn print_refusal(rt: &HostRuntime, refusal: Refusal) -> io::Result<()> {
     let number = refusal.number();
     match refusal {
-        Refusal::Stale(place) | Refusal::NoPlace(place) => {
-            let place = place.0;
-            println!(rt; " {number},{place}")
-        }
+        Refusal::Stale(place) | Refusal::NoPlace(place) => { println!(rt; " {number},{}", place.0) }
         _ => println!(rt; " {number}"),
     }
 }
@@ -56,20 +40,14 @@ fn print_refusal(rt: &HostRuntime, refusal: Refusal) -> io::Result<()> {
 pub(crate) fn print_exchange<K: Kind>(rt: &HostRuntime, exchange: &Exchange<K>) -> io::Result<()> {
     print_call(rt, exchange.call)?;
     match exchange.answer {
-        Ok(Answer::Opened(job)) => {
-            let job = job.0;
-            println!(rt; " +,{job}")
-        }
+        Ok(Answer::Opened(job)) => println!(rt; " +,{}", job.0),
         Ok(Answer::Told(value)) => {
             print!(rt; " +")?;
             print_fields(rt, &value)?;
             println!(rt; "")
         }
         Ok(Answer::Stored) => println!(rt; " +"),
-        Ok(Answer::Ended(place)) => {
-            let place = place.0;
-            println!(rt; " +,{place}")
-        }
+        Ok(Answer::Ended(place)) => println!(rt; " +,{}", place.0),
         Err(refusal) => print_refusal(rt, refusal),
     }
 }

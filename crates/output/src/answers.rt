@@ -53,7 +53,7 @@ impl Paper<'_> {
         self.write_fields(Lead::Letter(b'V'), value)
     }
 
-    // Writes a line for each item of a list, until one finds no room.
+    // Writes a line for each item of a list, until one finds no room. A `for` with `?` is the plainest way to stop there.
     pub fn write_each<T, F: Fn(&mut Paper<'_>, &T) -> Result<(), Refusal>>(
         &mut self,
         items: &[T],

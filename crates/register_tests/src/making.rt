@@ -23,6 +23,7 @@ pub const ENTRY: Entry = Entry {
     ending: Ending::Abandoned,
 };
 
+// Written out, since what a test expects shares nothing with the code.
 const CLOSED: JobRecord = JobRecord {
     standing: Standing::Closed,
     job: JobNumber(0),

@@ -9,7 +9,7 @@ use std::process::Abort;
 use std::test::Fail;
 use terms::refusals::{Refusal, TableName};
 
-// One more than the right length where it shall be wrong, else the right length.
+// One more than the right length where it shall be wrong, else the right length. A bool says it as well as an enum would.
 fn length(right: usize, wrong: bool) -> usize
     requires { right < 9 }
     ensures { result ≤ right + 1 }

@@ -73,7 +73,7 @@ impl Reader {
         match (self.stage, line.letter, line.second) {
             (Stage::Head, Some(b'R'), _) if fields == 5 => self.stage = Stage::Chooser,
             (Stage::Chooser, Some(b'P'), Some(b'S')) if fields == 3 => self.stage = Stage::Cells,
-            (Stage::Chooser, Some(b'P'), Some(b'X')) if 3 <= fields && fields <= 258 => self.stage =
+            (Stage::Chooser, Some(b'P'), Some(b'X')) if (3..=258).contains(&fields) => self.stage =
                 Stage::Cells,
             (Stage::Chooser, Some(b'P'), Some(b'S' | b'X')) => {
                 return Err(Cause::WrongCount.in_field(1));

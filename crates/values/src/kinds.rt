@@ -13,7 +13,8 @@ pub trait Kind: Copy {
 
     ghost form: { Form Self };
 
-    // Beside FIELDS, since no ghost member of a trait can name its constants: each kind shows the two to be the same.
+    // Beside FIELDS, which a rule of the project wants, since no ghost member of a trait can name its constants: each kind
+    // shows the two to be the same.
     fn count() -> usize
         ensures { result ≡ form.width };
 

@@ -12,6 +12,7 @@ pub fn read_value<K: Kind>(line: &[u8], first: u8) -> Result<K, BadField>
 {
     let mut value = K::blank();
     let mut rest = line;
+    // Fields go by number.
     for i in 0..K::count() {
         let field = first as usize + i;
         let (part, after) = read_field(rest);
