@@ -14,6 +14,8 @@ use Rattle.stages.specs.declared.stage.Reader.{Reader}
 use Rattle.stages.specs.declared.head_line.HeadLine.{HeadLine}
 use Rattle.stages.specs.ChooserLines.{read_chooser}
 use Rattle.stages.specs.Stages.{bad_shape, shape_of, moved_on, taken_or}
+use Rattle.schedule.specs.declared.reading.Unread.{Unread}
+use Rattle.schedule.specs.Reading.{went_on}
 use Rattle.schedule.specs.Accounts.{Lines, bad_next, at_line, wrong_letter, bad_line, fits, goes_on, wanted, at_calls, at_chooser, at_head, of_kind}
 
 ---- The text's lines
@@ -75,22 +77,18 @@ refuses k r q text line rest shape (Err at) bad s l e h =
 
 ---- What a stage that wants a line makes of it
 
-abbrev pub ended : {A : Type 0} → Result A BadLine → (A → Lines) → Lines
-ended (Ok a) next = next a
-ended (Err bad) next = bad_line bad
-
-goes_on_ended : {A : Type 0} (k : ℕ) (r : Result A BadField) (next : A → Lines) → goes_on k r next ≡ ended (in_line k r) next
-goes_on_ended k (Ok a) next = refl
-goes_on_ended k (Err bad) next = refl
+goes_on_went : {A : Type 0} (k : ℕ) (r : Result A BadField) (next : A → Lines) → goes_on k r next ≡ went_on (in_line k r) next
+goes_on_went k (Ok a) next = refl
+goes_on_went k (Err bad) next = refl
 
 -- a line that may stand there is read
 pub wanted_read : {A : Type 0} (k : ℕ) (stage : Stage) (width : ℕ) (read : List ℕ → Result A BadField) (next : A → Lines → Lines) (xs : Lines) (l : List ℕ) (ls : Lines) (s : Result A BadLine)
-    → xs ≡ l ∷ ls → bad_shape stage width (shape_of l) ≡ None → s ≡ in_line k (read l) → wanted k stage width read next xs ≡ ended s (λ a. next a ls)
+    → xs ≡ l ∷ ls → bad_shape stage width (shape_of l) ≡ None → s ≡ in_line k (read l) → wanted k stage width read next xs ≡ went_on s (λ a. next a ls)
 wanted_read {A} k stage width read next xs l ls s e h r =
     ap (wanted k stage width read next) e
     ∙ ap (λ (o : Option BadField). goes_on k (fits o (read l)) (λ a. next a ls)) h
-    ∙ goes_on_ended k (read l) (λ a. next a ls)
-    ∙ ap (λ (q : Result A BadLine). ended q (λ a. next a ls)) (sym r)
+    ∙ goes_on_went k (read l) (λ a. next a ls)
+    ∙ ap (λ (q : Result A BadLine). went_on q (λ a. next a ls)) (sym r)
 
 -- what was read is let go
 abbrev pub let_go : {A : Type 0} → Result A BadField → Result (Unit {0}) BadField
@@ -109,13 +107,15 @@ wanted_unread k stage width read next [] = refl
 wanted_unread k stage width read next (l ∷ ls) = goes_on_unread k (bad_shape stage width (shape_of l)) (read l) (next ls)
 
 -- after the head, what the line of the chooser leads to
-pub opened : (head : HeadLine) (ls rest end : Lines) (r : Reader) → at_head ls ≡ at_chooser head rest → r ≡ record { stage = Chooser; left = 0; width = 0 }
-    → wanted 2 r.stage r.width (λ l. let_go (read_chooser 256 l)) (λ _. of_kind head.kind head.cells) rest ≡ end → at_head ls ≡ end
-opened head ls rest end r a s w =
+pub opened : (head : HeadLine) (ls end : Lines) (u : Unread) → at_head ls ≡ at_chooser head (lines_of u.text.now) → u.reader ≡ record { stage = Chooser; left = 0; width = 0 } → u.number ≡ 2
+    → wanted u.number u.reader.stage u.reader.width (λ l. let_go (read_chooser 256 l)) (λ _. of_kind head.kind head.cells) (lines_of u.text.now) ≡ end → at_head ls ≡ end
+opened head ls end u a s n w =
     let next = of_kind head.kind head.cells in
+    let rest = lines_of u.text.now in
     a
     ∙ sym (wanted_unread 2 Chooser 0 (read_chooser 256) next rest)
     ∙ sym (ap (λ (q : Reader). wanted 2 q.stage q.width (λ l. let_go (read_chooser 256 l)) (λ _. next) rest) s)
+    ∙ sym (ap (λ (k : ℕ). wanted k u.reader.stage u.reader.width (λ l. let_go (read_chooser 256 l)) (λ _. next) rest) n)
     ∙ w
 
 calls_bad_of : {V : Type 0} (form : Form V) (k width : ℕ) (xs : Lines) (bad : BadLine) (l : List ℕ) (ls : Lines) → xs ≡ l ∷ ls → bad_next k Calls width xs ≡ Some bad
