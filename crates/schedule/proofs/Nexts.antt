@@ -1,5 +1,5 @@
 -- The next line of a text, and whether the reader takes it.
-use Rattle.std.proofs.Common.{◌≡◌, ℕ, false, eqb, List, [], ◌∷◌, length, Some, None, Ok, Err, Option, Result, sym, refl, ap, ◌∙◌}
+use Rattle.std.proofs.Common.{◌≡◌, ℕ, ◌+◌, ◌<◌, ◌≤◌, Bool, true, false, cond, eqb, arith, List, [], ◌∷◌, length, Some, None, Ok, Err, Option, Result, sym, refl, ap, ◌∙◌}
 use Rattle.std.specs.Result.{MatchResult, IsErrAnd}
 use Rattle.std.proofs.lemmas.Result.{err_from_is_err_and}
 use Rattle.terms.specs.declared.refusals.BadField.{BadField}
@@ -27,6 +27,22 @@ first_line (x ∷ xs) h = lines_are x xs
 -- any other begins with what stands before its first line feed
 pub begins : (text line rest : List ℕ) → eqb (length text) 0 ≡ false → line ≡ before 10 text → rest ≡ after 10 text → lines_of text ≡ line ∷ lines_of rest
 begins text line rest h a b = first_line text h ∙ ap (λ (l : List ℕ). l ∷ lines_of (after 10 text)) (sym a) ∙ ap (λ (r : List ℕ). line ∷ lines_of r) (sym b)
+
+no_longer_where : (b : Bool) (xs ys : List ℕ) → length ys ≤ length xs → length (cond b xs ys) ≤ length xs
+no_longer_where true xs ys h = omega arith
+no_longer_where false xs ys h = h
+
+no_longer : (s : ℕ) (xs : List ℕ) → length (after s xs) ≤ length xs
+no_longer s [] = omega arith
+no_longer s (x ∷ xs) = omega (arith, no_longer_where (eqb x s) xs (after s xs) (no_longer s xs))
+
+shorter : (s : ℕ) (xs : List ℕ) → eqb (length xs) 0 ≡ false → length (after s xs) < length xs
+shorter s [] h = absurd cc
+shorter s (x ∷ xs) h = omega (arith, no_longer_where (eqb x s) xs (after s xs) (no_longer s xs))
+
+-- a line has a byte at least, so that as many numbers as bytes are enough
+pub lines_still_fit : (number most : ℕ) (text rest : List ℕ) → eqb (length text) 0 ≡ false → rest ≡ after 10 text → number + length text ≤ most → number + 1 + length rest ≤ most
+lines_still_fit number most text rest e r h = rw r (omega (arith, shorter 10 text e))
 
 ---- A bad field, told of a line
 

@@ -1,4 +1,4 @@
-ghost use Rattle.std.specs.Prelude.{◌≡◌, ◌≤◌, List, [], map, Ok, Err};
+ghost use Rattle.std.specs.Prelude.{◌≡◌, List, [], map, Ok, Err};
 ghost use Rattle.text.specs.Split.{lines_of};
 ghost use Rattle.rules.specs.Contents.{contents_of, Fits, Same};
 ghost use Rattle.rules.specs.Heads.{dimensions_of};
@@ -17,8 +17,7 @@ use values::kinds::Kind;
 
 // Reads the lines of calls. No call is built yet, so that the reader takes no line here.
 fn read_calls<K: Kind>(unread: &mut Unread<'_>) -> Result<(), BadLine>
-    requires stage { unread.old.reader.stage ≡ Calls }
-    requires number { unread.old.number ≤ 65_536 }
+    requires { unread.old.reader.stage ≡ Calls }
     ensures { elim result [ Ok _ ↦ ((values : List K) → at_calls K.form unread.old.number values (lines_of unread.old.text.now) ≡ map (value_line K.form) values) | Err bad ↦ ((values : List K) → at_calls K.form unread.old.number values (lines_of unread.old.text.now) ≡ bad_line bad) ] }
 {
     if unread.text.is_empty() {

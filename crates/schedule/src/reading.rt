@@ -1,11 +1,10 @@
-ghost use Rattle.std.specs.Prelude.{◌≡◌, ◌≤◌, ℕ, List, ◌∷◌, Some, None, Ok, Err, IfOk, OnOk};
+ghost use Rattle.std.specs.Prelude.{◌≡◌, ◌+◌, ◌^◌, ◌≤◌, ℕ, List, length, ◌∷◌, Some, None, Ok, Err, IfOk, OnOk};
 ghost use Rattle.std.specs.Fn.{FnOnceReturnsAt};
 ghost use Rattle.text.specs.Split.{lines_of};
 ghost use Rattle.stages.specs.declared.stage.Stage.TheVariants.{Cells};
 ghost use Rattle.stages.specs.Stages.{bad_shape, shape_of};
 ghost use Rattle.schedule.specs.Accounts.{bad_next, bad_line, at_head, of_kind};
 ghost use Rattle.schedule.specs.Ranges.{InRange};
-ghost use Rattle.schedule.specs.Reading.{MovedOn, ReadsWanted};
 
 use stages::chooser_line::read_chooser;
 use stages::head_line::{HeadLine, read_head};
@@ -19,12 +18,14 @@ pub(crate) struct Unread<'a> {
     pub number: usize,
     pub text: &'a [u8],
     pub reader: Reader,
+    ghost lines_fit: { number + length text.now ≤ 2 ^ 63 },
 }
 
 impl<'a> Unread<'a> {
+    ghost use Rattle.schedule.specs.Reading.{MovedOn, ReadsWanted};
+
     // Takes the next line; refused where the line is missing, or where the reader does not take it.
     pub fn next_line(&mut self) -> Result<&'a [u8], BadLine>
-        requires { self.old.number ≤ 65_536 }
         ensures { elim result [ Ok line ↦ (lines_of self.old.text.now ≡ line.now ∷ lines_of self.new.text.now) × (bad_shape self.old.reader.stage self.old.reader.width (shape_of line.now) ≡ None) × (MovedOn self.old self.new) | Err bad ↦ bad_next self.old.number self.old.reader.stage self.old.reader.width (lines_of self.old.text.now) ≡ Some bad ] }
     {
         let number = self.number;
@@ -45,8 +46,7 @@ impl<'a> Unread<'a> {
         &mut self,
         read: F,
     ) -> Result<T, BadLine>
-        requires callable { F.IsAlwaysCallable read }
-        requires number { self.old.number ≤ 65_536 }
+        requires { F.IsAlwaysCallable read }
         ensures wanted { ReadsWanted (FnOnceReturnsAt F.FnOnce read) self.old result self.new }
         ensures given { IfOk result (λ value. (line : List ℕ) × FnOnceReturnsAt F.FnOnce read line (Ok value)) }
         ensures moved { OnOk result (MovedOn self.old self.new) }

@@ -26,6 +26,3 @@ loop-preserved g c =
       same = search rules;
       sizes = search rules;
     }
-
-pub read_next-requires-clause-number : goal.read_next-requires-clause-number
-read_next-requires-clause-number g c = omega (arith, c.loop.invariant.filled.numbered, c.loop.invariant.filled.within, c.loop.head.sizes.cells_fit)

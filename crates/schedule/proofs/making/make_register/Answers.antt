@@ -1,4 +1,4 @@
-use Rattle.std.proofs.Common.{map, ap, ◌∙◌, sym, arith}
+use Rattle.std.proofs.Common.{map, ap, ◌∙◌, sym}
 use Rattle.std.proofs.lemmas.Result.{err_from_is_err_and}
 use Rattle.rules.specs.declared.sizes.Sizes.{Sizes}
 use Rattle.rules.specs.Heads.{Dimensions, filling_of}
@@ -28,8 +28,3 @@ returns-clause-read g c =
     all_filled g.K.Kind.form (lines_of c.args.unread.now.text.now) c.new-head.result.sizes.cells c.args.sizes.cells (filling_of c.fill_cells.new.head) (contents_of _ c.fill_cells.new.t)
     c.fill_cells.new.unread _ filled.read cells sizes (c.in_ok-read_calls.ensures (contents_of _ c.fill_cells.new.t).values)
     ∙ sym (ap (λ (o : StartOutcome _). map (value_line g.K.Kind.form) o.contents.values) started)
-
-pub read_calls-requires-clause-number : goal.read_calls-requires-clause-number
-read_calls-requires-clause-number g c =
-    let sizes = ap (λ (s : Sizes). s.cells) c.new-head.ensures.0 in
-    omega (arith, sizes, c.in_ok-fill_cells.ensures.read.numbered, c.args.sizes.cells_fit)
