@@ -35,7 +35,7 @@ pub(crate) fn make_register<K: Kind>(
 ) -> Result<Started, BadLine>
     requires tables_fit { Fits {V = K} (dimensions_of sizes) (contents_of K t.old) }
     requires at_cells { unread.old.reader ≡ record { stage = Cells; left = sizes.cells; width = K.form.width } }
-    requires third { unread.old.number ≡ 3 }
+    requires third_line { unread.old.number ≡ 3 }
     ensures same { Same K t.new t.old }
     ensures read { elim result [ Ok _ ↦ at_cells K.form sizes.cells 3 [] (lines_of unread.old.text.now) ≡ map (value_line K.form) t.new.values.now | Err bad ↦ at_cells K.form sizes.cells 3 [] (lines_of unread.old.text.now) ≡ bad_line bad ] }
 {

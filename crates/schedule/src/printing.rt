@@ -29,7 +29,7 @@ fn print_made<K: Kind>(
 ) -> Result<(), Refusal>
     requires tables_fit { Fits {V = K} (dimensions_of sizes) (contents_of K t.old) }
     requires at_cells { unread.old.reader ≡ record { stage = Cells; left = sizes.cells; width = K.form.width } }
-    requires third { unread.old.number ≡ 3 }
+    requires third_line { unread.old.number ≡ 3 }
     ensures { LinesWritten (at_cells K.form sizes.cells 3 [] (lines_of unread.old.text.now)) paper.old result paper.new }
 {
     match make_register(sizes, t, unread) {

@@ -13,11 +13,12 @@ use terms::refusals::{BadField, BadLine, Cause};
 use text::read_line;
 
 // What is left of a schedule: the number of the next line, the text from this line on, and the reader that takes the lines.
-#[derive(Clone, Copy)]
+#[derive(Drop)]
 pub(crate) struct Unread<'a> {
     pub number: usize,
     pub text: &'a [u8],
     pub reader: Reader,
+    // A line has a byte at least, so that the number of each fits.
     ghost lines_fit: { number + length text.now ≤ 2 ^ 63 },
 }
 
@@ -58,13 +59,13 @@ impl<'a> Unread<'a> {
 }
 
 // What the first two lines say, and what is left after them, with the reader at the first cell.
-#[derive(Clone, Copy)]
+#[derive(Drop)]
 pub(crate) struct Opening<'a> {
     pub head: HeadLine,
     pub unread: Unread<'a>,
     ghost in_range: { InRange head },
     ghost at_cells: { unread.reader ≡ record { stage = Cells; left = head.cells; width = 0 } },
-    ghost third: { unread.number ≡ 3 },
+    ghost third_line: { unread.number ≡ 3 },
 }
 
 // Reads a schedule's first two lines.

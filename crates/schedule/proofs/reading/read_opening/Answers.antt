@@ -23,7 +23,7 @@ invariant_of-result c =
     record {
       in_range = head_in_range given.0 c.in_ok-head.head (ap read_head (sym given.1.2) ∙ sym given.1.1);
       at_cells = c.in_ok-read_next.ensures.moved.0 ∙ ap (λ (q : Reader). moved_on q.stage c.in_ok-head.head.cells q.width) c.in_ok-head.ensures.moved.0;
-      third = c.in_ok-read_next.ensures.moved.1 ∙ ap (λ n. n + 1) c.in_ok-head.ensures.moved.1;
+      third_line = c.in_ok-read_next.ensures.moved.1 ∙ ap (λ n. n + 1) c.in_ok-head.ensures.moved.1;
     }
 
 pub returns : goal.returns
