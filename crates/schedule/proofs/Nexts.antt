@@ -1,5 +1,5 @@
 -- The next line of a text, and whether the reader takes it.
-use Rattle.std.proofs.Common.{◌≡◌, ℕ, false, eqb, List, [], ◌∷◌, length, Some, None, Ok, Err, Option, Result, sym, refl, ap, ◌∙◌}
+use Rattle.std.proofs.Common.{◌≡◌, ℕ, ◌+◌, ◌<◌, ◌≤◌, Bool, true, false, cond, eqb, arith, List, [], ◌∷◌, length, Some, None, Ok, Err, Option, Result, sym, refl, ap, ◌∙◌}
 use Rattle.std.specs.Result.{MatchResult, IsErrAnd}
 use Rattle.std.proofs.lemmas.Result.{err_from_is_err_and}
 use Rattle.terms.specs.declared.refusals.BadField.{BadField}
@@ -14,6 +14,8 @@ use Rattle.stages.specs.declared.stage.Reader.{Reader}
 use Rattle.stages.specs.declared.head_line.HeadLine.{HeadLine}
 use Rattle.stages.specs.ChooserLines.{read_chooser}
 use Rattle.stages.specs.Stages.{bad_shape, shape_of, moved_on, taken_or}
+use Rattle.schedule.specs.declared.reading.Unread.{Unread}
+use Rattle.schedule.specs.Reading.{went_on}
 use Rattle.schedule.specs.Accounts.{Lines, bad_next, at_line, wrong_letter, bad_line, fits, goes_on, wanted, at_calls, at_chooser, at_head, of_kind}
 
 ---- The text's lines
@@ -25,6 +27,22 @@ first_line (x ∷ xs) h = lines_are x xs
 -- any other begins with what stands before its first line feed
 pub begins : (text line rest : List ℕ) → eqb (length text) 0 ≡ false → line ≡ before 10 text → rest ≡ after 10 text → lines_of text ≡ line ∷ lines_of rest
 begins text line rest h a b = first_line text h ∙ ap (λ (l : List ℕ). l ∷ lines_of (after 10 text)) (sym a) ∙ ap (λ (r : List ℕ). line ∷ lines_of r) (sym b)
+
+no_longer_where : (b : Bool) (xs ys : List ℕ) → length ys ≤ length xs → length (cond b xs ys) ≤ length xs
+no_longer_where true xs ys h = omega arith
+no_longer_where false xs ys h = h
+
+no_longer : (s : ℕ) (xs : List ℕ) → length (after s xs) ≤ length xs
+no_longer s [] = omega arith
+no_longer s (x ∷ xs) = omega (arith, no_longer_where (eqb x s) xs (after s xs) (no_longer s xs))
+
+shorter : (s : ℕ) (xs : List ℕ) → eqb (length xs) 0 ≡ false → length (after s xs) < length xs
+shorter s [] h = absurd cc
+shorter s (x ∷ xs) h = omega (arith, no_longer_where (eqb x s) xs (after s xs) (no_longer s xs))
+
+-- a line has a byte at least, so that as many numbers as bytes are enough
+pub lines_still_fit : (number most : ℕ) (text rest : List ℕ) → eqb (length text) 0 ≡ false → rest ≡ after 10 text → number + length text ≤ most → number + 1 + length rest ≤ most
+lines_still_fit number most text rest e r h = rw r (omega (arith, shorter 10 text e))
 
 ---- A bad field, told of a line
 
@@ -75,22 +93,18 @@ refuses k r q text line rest shape (Err at) bad s l e h =
 
 ---- What a stage that wants a line makes of it
 
-abbrev pub ended : {A : Type 0} → Result A BadLine → (A → Lines) → Lines
-ended (Ok a) next = next a
-ended (Err bad) next = bad_line bad
-
-goes_on_ended : {A : Type 0} (k : ℕ) (r : Result A BadField) (next : A → Lines) → goes_on k r next ≡ ended (in_line k r) next
-goes_on_ended k (Ok a) next = refl
-goes_on_ended k (Err bad) next = refl
+goes_on_went : {A : Type 0} (k : ℕ) (r : Result A BadField) (next : A → Lines) → goes_on k r next ≡ went_on (in_line k r) next
+goes_on_went k (Ok a) next = refl
+goes_on_went k (Err bad) next = refl
 
 -- a line that may stand there is read
 pub wanted_read : {A : Type 0} (k : ℕ) (stage : Stage) (width : ℕ) (read : List ℕ → Result A BadField) (next : A → Lines → Lines) (xs : Lines) (l : List ℕ) (ls : Lines) (s : Result A BadLine)
-    → xs ≡ l ∷ ls → bad_shape stage width (shape_of l) ≡ None → s ≡ in_line k (read l) → wanted k stage width read next xs ≡ ended s (λ a. next a ls)
+    → xs ≡ l ∷ ls → bad_shape stage width (shape_of l) ≡ None → s ≡ in_line k (read l) → wanted k stage width read next xs ≡ went_on s (λ a. next a ls)
 wanted_read {A} k stage width read next xs l ls s e h r =
     ap (wanted k stage width read next) e
     ∙ ap (λ (o : Option BadField). goes_on k (fits o (read l)) (λ a. next a ls)) h
-    ∙ goes_on_ended k (read l) (λ a. next a ls)
-    ∙ ap (λ (q : Result A BadLine). ended q (λ a. next a ls)) (sym r)
+    ∙ goes_on_went k (read l) (λ a. next a ls)
+    ∙ ap (λ (q : Result A BadLine). went_on q (λ a. next a ls)) (sym r)
 
 -- what was read is let go
 abbrev pub let_go : {A : Type 0} → Result A BadField → Result (Unit {0}) BadField
@@ -109,13 +123,15 @@ wanted_unread k stage width read next [] = refl
 wanted_unread k stage width read next (l ∷ ls) = goes_on_unread k (bad_shape stage width (shape_of l)) (read l) (next ls)
 
 -- after the head, what the line of the chooser leads to
-pub opened : (head : HeadLine) (ls rest end : Lines) (r : Reader) → at_head ls ≡ at_chooser head rest → r ≡ record { stage = Chooser; left = 0; width = 0 }
-    → wanted 2 r.stage r.width (λ l. let_go (read_chooser 256 l)) (λ _. of_kind head.kind head.cells) rest ≡ end → at_head ls ≡ end
-opened head ls rest end r a s w =
+pub opened : (head : HeadLine) (ls end : Lines) (u : Unread) → at_head ls ≡ at_chooser head (lines_of u.text.now) → u.reader ≡ record { stage = Chooser; left = 0; width = 0 } → u.number ≡ 2
+    → wanted u.number u.reader.stage u.reader.width (λ l. let_go (read_chooser 256 l)) (λ _. of_kind head.kind head.cells) (lines_of u.text.now) ≡ end → at_head ls ≡ end
+opened head ls end u a s n w =
     let next = of_kind head.kind head.cells in
+    let rest = lines_of u.text.now in
     a
     ∙ sym (wanted_unread 2 Chooser 0 (read_chooser 256) next rest)
     ∙ sym (ap (λ (q : Reader). wanted 2 q.stage q.width (λ l. let_go (read_chooser 256 l)) (λ _. next) rest) s)
+    ∙ sym (ap (λ (k : ℕ). wanted k u.reader.stage u.reader.width (λ l. let_go (read_chooser 256 l)) (λ _. next) rest) n)
     ∙ w
 
 calls_bad_of : {V : Type 0} (form : Form V) (k width : ℕ) (xs : Lines) (bad : BadLine) (l : List ℕ) (ls : Lines) → xs ≡ l ∷ ls → bad_next k Calls width xs ≡ Some bad

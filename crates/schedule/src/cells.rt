@@ -5,11 +5,10 @@ ghost use Rattle.rules.specs.Heads.{dimensions_of, filling_of};
 ghost use Rattle.schedule.specs.Accounts.{at_cells, bad_line, read_cell};
 ghost use Rattle.schedule.specs.Filling.{FilledTo};
 
-use crate::reading::read_next;
+use crate::reading::Unread;
 use register::making::fill;
 use rules::head::Filling;
 use rules::tables::Tables;
-use stages::stage::Reader;
 use terms::refusals::{BadField, BadLine};
 use text::read_field;
 use values::kinds::Kind;
@@ -23,25 +22,21 @@ fn read_cell<K: Kind>(line: &[u8]) -> Result<K, BadField>
     read_value(fields, 2)
 }
 
-// Fills all cells from the lines of a text, and answers the text after them.
-pub(crate) fn fill_cells<'a, K: Kind>(
+// Fills all cells from the lines of a schedule.
+pub(crate) fn fill_cells<K: Kind>(
     head: &mut Filling,
     t: &mut Tables<'_, K>,
-    reader: &mut Reader,
-    text: &'a [u8],
-) -> Result<&'a [u8], BadLine>
-    requires { FilledTo K.form (lines_of text.now) 0 (filling_of head.old) (contents_of K t.old) reader.old (lines_of text.now) }
+    unread: &mut Unread<'_>,
+) -> Result<(), BadLine>
+    requires { FilledTo K.form (lines_of unread.old.text.now) 0 (filling_of head.old) (contents_of K t.old) unread.old }
     ensures same { Same K t.new t.old }
     ensures sizes { dimensions_of head.new.sizes ≡ dimensions_of head.old.sizes }
-    ensures read { elim result [ Ok rest ↦ FilledTo K.form (lines_of text.now) head.old.sizes.cells (filling_of head.new) (contents_of K t.new) reader.new (lines_of rest.now) | Err bad ↦ at_cells K.form head.old.sizes.cells 3 [] (lines_of text.now) ≡ bad_line bad ] }
+    ensures read { elim result [ Ok _ ↦ FilledTo K.form (lines_of unread.old.text.now) head.old.sizes.cells (filling_of head.new) (contents_of K t.new) unread.new | Err bad ↦ at_cells K.form head.old.sizes.cells 3 [] (lines_of unread.old.text.now) ≡ bad_line bad ] }
 {
-    let mut rest = text;
-    // The line's number is told of a bad line.
-    for number in 3..3 + head.sizes.cells {
+    for _ in 0..head.sizes.cells {
         // A closure, since the check does not take a generic function by its name here.
-        let (value, after) = read_next(reader, number, rest, |line| read_cell(line))?;
+        let value = unread.read_next(|line| read_cell(line))?;
         fill(head, t, value).unwrap();
-        rest = after;
     }
-    Ok(rest)
+    Ok(())
 }

@@ -9,12 +9,11 @@ ghost use Rattle.schedule.specs.Accounts.{at_cells, of_kind};
 ghost use Rattle.schedule.specs.Ranges.{InRange};
 
 use crate::making::make_register;
-use crate::reading::Opening;
+use crate::reading::{Opening, Unread};
 use output::paper::Paper;
 use rules::sizes::Sizes;
 use rules::tables::Tables;
 use stages::head_line::{HeadLine, KindName};
-use stages::stage::Reader;
 use terms::numbers::{CrewNumber, JobNumber, Place};
 use terms::records::{Ending, Entry, JobRecord};
 use terms::refusals::Refusal;
@@ -25,14 +24,15 @@ use values::records::{Card, Dial};
 fn print_made<K: Kind>(
     sizes: Sizes,
     t: &mut Tables<'_, K>,
-    reader: &mut Reader,
-    text: &[u8],
+    unread: &mut Unread<'_>,
     paper: &mut Paper<'_>,
 ) -> Result<(), Refusal>
-    requires { (Fits {V = K} (dimensions_of sizes) (contents_of K t.old)) × (reader.old ≡ record { stage = Cells; left = sizes.cells; width = K.form.width }) }
-    ensures { LinesWritten (at_cells K.form sizes.cells 3 [] (lines_of text.now)) paper.old result paper.new }
+    requires tables_fit { Fits {V = K} (dimensions_of sizes) (contents_of K t.old) }
+    requires at_cells { unread.old.reader ≡ record { stage = Cells; left = sizes.cells; width = K.form.width } }
+    requires third_line { unread.old.number ≡ 3 }
+    ensures { LinesWritten (at_cells K.form sizes.cells 3 [] (lines_of unread.old.text.now)) paper.old result paper.new }
 {
-    match make_register(sizes, t, reader, text) {
+    match make_register(sizes, t, unread) {
         Ok(_) => paper.write_values(t.values),
         Err(bad) => paper.write_refusal(Refusal::BadLine(bad)),
     }
@@ -84,7 +84,7 @@ fn cut<K>(memory: Tables<'_, K>, sizes: Sizes) -> Tables<'_, K>
 // each as long as this register wants it, and prints what its lines make of it.
 fn print_kind<K: Kind>(opening: Opening<'_>, paper: &mut Paper<'_>) -> Result<(), Refusal>
     requires { 512 * type_size K.row < 2 ^ 63 }
-    ensures { LinesWritten (at_cells K.form opening.entry.head.cells 3 [] (lines_of opening.entry.rest.now)) paper.old result paper.new }
+    ensures { LinesWritten (at_cells K.form opening.entry.head.cells 3 [] (lines_of opening.entry.unread.text.now)) paper.old result paper.new }
 {
     let sizes = sizes_of(opening.head);
     let mut values = [K::blank(); 64];
@@ -104,14 +104,14 @@ fn print_kind<K: Kind>(opening: Opening<'_>, paper: &mut Paper<'_>) -> Result<()
         book: &mut book,
     };
     let mut t = cut(memory, sizes);
-    let mut reader = opening.reader;
-    reader.width = K::count();
-    print_made(sizes, &mut t, &mut reader, opening.rest, paper)
+    let mut unread = opening.unread;
+    unread.reader.width = K::count();
+    print_made(sizes, &mut t, &mut unread, paper)
 }
 
 // Prints the account of a schedule whose first two lines were read.
 pub(crate) fn print_opened(opening: Opening<'_>, paper: &mut Paper<'_>) -> Result<(), Refusal>
-    ensures { LinesWritten (of_kind opening.entry.head.kind opening.entry.head.cells (lines_of opening.entry.rest.now)) paper.old result paper.new }
+    ensures { LinesWritten (of_kind opening.entry.head.kind opening.entry.head.cells (lines_of opening.entry.unread.text.now)) paper.old result paper.new }
 {
     match opening.head.kind {
         KindName::Card => print_kind::<Card>(opening, paper),
