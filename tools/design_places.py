@@ -45,15 +45,17 @@ class Function:
         return f"{self.file}:{self.line} {self.name}"
 
     def parameters(self):
-        inner = self.head[self.head.index("(") + 1:]
+        head = self.head.replace("->", "  ")
+        depth, at = 0, 0
+        for at, c in enumerate(head):
+            depth += {"<": 1, ">": -1}.get(c, 0)
+            if c == "(" and depth == 0:
+                break
         depth, part, parts = 0, "", []
-        for c in inner:
-            if c in "(<[":
-                depth += 1
-            if c in ")>]":
-                if c == ")" and depth == 0:
-                    break
-                depth -= 1
+        for c in head[at + 1:]:
+            depth += 1 if c in "(<[" else -1 if c in ")>]" else 0
+            if depth < 0:
+                break
             if c == "," and depth == 0:
                 parts.append(part)
                 part = ""
@@ -178,7 +180,7 @@ def point_4():
     closed = [f"{file}" for file, text in SOURCES for _ in re.findall(r"standing: Standing::Closed,\s*job: JobNumber\(0\)", bare(text))]
     n += found("default", "the closed record, or a value of zeros, written out", closed + in_bodies(r"(?:serial: 0,\s*litres: 0,|Dial \{ number: 0 \})"))
     n += found("bad-field", "a bad field or a bad line written out", in_bodies(r"Bad(?:Field|Line) \{"))
-    n += found("range", "a range tested by two comparisons", in_bodies(r"(?:\w+ < 1 \|\| (?:\w+ > |[\d_]+ < )|1 <= \w+ && \w+ <= |b'0' \|\| )"))
+    n += found("range", "a range tested by two comparisons", in_bodies(r"(?:\w+ < 1 \|\| (?:\w+ > |[\d_]+ < )|1 <= \w+ && \w+ <= |3 <= \w+ && \w+ <= |b'0' \|\| |\.0 == 0 \|\| )"))
     n += found("digits", "digits printed by hand", in_bodies(r"b'0' \+"))
     return n
 
@@ -206,7 +208,7 @@ def point_5():
 def point_6():
     print("6 Buffers")
     n = found("buffer", "a lent buffer with its count beside it as a parameter", in_heads(r"count: &mut Count, out: &mut \[u8\]|out: &mut \[u8\],[^)]*count|count: &mut Count,\s*out: &mut \[u8\]"))
-    n += found("used", "a slice or an array with an index or a count of its own beside it", [f"{file} {name}" for file, text in SOURCES for name, inner in re.findall(r"struct (\w+)[^{;]*\{([^}]*)\}", bare(text)) if re.search(r"&\S* (?:mut )?\[|: \[", inner) and "usize" in inner] + in_heads(r"\[u64; 64\]\) -> usize") + in_heads(r"numbers: &mut \[u64\]\) -> Result<usize"))
+    n += found("used", "a slice or an array with an index or a count of its own beside it", [f"{file} {name}" for file, text in SOURCES for name, inner in re.findall(r"struct (\w+)[^{;]*\{([^}]*)\}", bare(text)) if re.search(r"&\S* (?:mut )?\[|: \[", inner) and re.search("usize|Count", inner)] + in_heads(r"\[u64; 64\]\) -> usize") + in_heads(r"numbers: &mut \[u64\]\) -> Result<usize"))
     n += found("parallel", "five lent slices or more as parameters of one function, or as fields of one struct", [f.place() for f in FUNCTIONS if len(re.findall(r"&mut \[", f.head)) > 4] + [f"{file} {name}" for file, text in SOURCES for name, inner in re.findall(r"struct (\w+)[^{;]*\{([^}]*)\}", bare(text)) if len(re.findall(r"mut \[|: \[", inner)) > 4])
     return n
 
