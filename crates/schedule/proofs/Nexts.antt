@@ -58,10 +58,6 @@ told {A} k (Err at) s P h tells =
     let p = err_from_is_err_and s h in
     p.1 ∙ ap (λ (bad : BadLine). Err bad) (tells at p.0 p.2)
 
-pub told_ok : {A : Type 0} (k : ℕ) (r : Result A BadField) (a : A) → Ok a ≡ in_line k r → r ≡ Ok a
-told_ok k (Ok b) a h = cc
-told_ok k (Err bad) a h = absurd cc
-
 ---- What the reader makes of the next line
 
 takes_or : (r q : Reader) (o : Option BadField) → ◌≡◌ {A = Result (Unit {0}) BadField × Reader} (Ok tt, q) (taken_or o r)
