@@ -1,16 +1,28 @@
 ghost use Rattle.std.specs.Prelude.{◌≡◌, ◌+◌, ◌*◌, ◌<◌, ◌≤◌};
-ghost use Rattle.rules.specs.Tables.{row as row_of, spot as spot_of};
+ghost use Rattle.rules.specs.Contents.{closed_record};
+ghost use Rattle.rules.specs.Tables.{at, row as row_of, spot as spot_of};
 ghost use Rattle.rules.specs.Registers.{is_open};
 
 use crate::numbered::{Cell, Crew};
 use rules::sizes::Sizes;
-use terms::records::Standing;
+use rules::tables::Tables;
+use terms::records::{JobRecord, Standing};
 
 // The record is of a crew that has a job open.
 pub fn is_open(standing: Standing) -> bool
     ensures { result ≡ is_open standing }
 {
     standing == Standing::Open
+}
+
+// The job record of a crew; past the table's end it counts as closed.
+pub fn record_of<V>(t: &Tables<'_, V>, crew: Crew) -> JobRecord
+    ensures { result ≡ at t.now.jobs.now crew.number closed_record }
+{
+    t.jobs
+        .get(crew.number - 1)
+        .copied()
+        .unwrap_or(JobRecord::closed())
 }
 
 // Where the row of a crew begins in a table of crews and cells.

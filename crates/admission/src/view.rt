@@ -5,7 +5,7 @@ ghost use Rattle.rules.specs.Tables.{at};
 ghost use Rattle.rules.specs.Registers.{Register, flag_of, has_read, has_written, register_of};
 
 use crate::flags::{is_read, is_written};
-use crate::looking::row;
+use crate::looking::{record_of, row};
 use crate::numbered::Crew;
 use rules::head::Started;
 use rules::sizes::Sizes;
@@ -44,11 +44,7 @@ impl<'a, 't, V> View<'a, 't, V> {
     pub fn record_of(&self, crew: Crew) -> JobRecord
         ensures { result ≡ at self.now.tables.jobs crew.number closed_record }
     {
-        let t: &Tables<'_, V> = self.tables;
-        t.jobs
-            .get(crew.number - 1)
-            .copied()
-            .unwrap_or(JobRecord::closed())
+        record_of(self.tables, crew)
     }
 
     // The written and the read place of the cell `i`, counted from 0; past a table's end it is 0.
