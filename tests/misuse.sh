@@ -8,11 +8,11 @@ set -euo pipefail
 scratch=$(mktemp -d)
 trap 'rm -rf "$scratch"' EXIT
 
-# The crates that a crate depends on, each after its own dependencies, and the crate itself.
+# The crates that a crate depends on, each after its own dependencies, and the crate itself; not libraries of the toolchain.
 with_dependencies() {
     local dependency
     for dependency in $(sed -n "s/#.*//; s/^$1://p" crates.txt); do
-        with_dependencies "$dependency"
+        [ -d "crates/$dependency" ] && with_dependencies "$dependency"
     done
     echo "$1"
 }
