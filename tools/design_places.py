@@ -167,7 +167,7 @@ def point_3():
     n = found("while", "a while loop", in_bodies(r"\bwhile\b"))
     n += found("index", "a for over a range of numbers", in_bodies(r"\bfor (?!_)\w+ in [^{]*\.\.[^{]*\{"))
     n += found("method", "a loop that fills, finds or counts, for which the library has a method", [f.place() for f in FUNCTIONS if re.search(r"for [^{;]* in [^{;]*\{\s*(?:\*\w+ = [^;]*;|if [^{]*\{\s*(?:return [^;]*;|\w+ \+= 1;)\s*\})\s*\}", f.body)])
-    n += found("recursion", "a function that calls itself", [f.place() for f in FUNCTIONS if re.search(rf"(?<![\w.:]){f.name}\(", f.body)])
+    n += found("recursion", "a function, not a method, that calls itself by its name", [f.place() for f in FUNCTIONS if "&self" not in f.head and re.search(rf"(?<![\w.:]){f.name}\(", f.body)])
     return n
 
 

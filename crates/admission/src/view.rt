@@ -40,7 +40,7 @@ impl<'a, 't, V> View<'a, 't, V> {
         self.head.sizes
     }
 
-    // The job record of a crew; past the table's end it counts as closed.
+    // The job record of a crew; past the table's end it counts as closed. The function of this name wants the tables alone.
     pub fn record_of(&self, crew: Crew) -> JobRecord
         ensures { result ≡ at self.now.tables.jobs crew.number closed_record }
     {

@@ -8,6 +8,8 @@ use admission::looking::is_open;
 use admission::numbered::Crew;
 use admission::view::View;
 
+// A view and the crews that it is asked about are parameters: a struct of them would be made for each call.
+
 // The other crew's job has read first-hand a cell that the crew's job has written.
 fn touches<V>(view: &View<'_, '_, V>, crew: Crew, other: Crew) -> bool
     ensures { result ≡ Touches view.now crew.number other.number }

@@ -19,7 +19,8 @@ pub fn clear_row(flags: &mut [u8], from: usize, count: usize)
     }
 }
 
-// Puts a record into the table of job records; past the table's end nothing is put.
+// Puts a record into the table of job records; past the table's end nothing is put. One line, as `store` of register is for
+// values: a function for both would say no more than `put`.
 pub fn put_record(jobs: &mut [JobRecord], i: usize, job: JobRecord)
     ensures { jobs.new ≡ slice_set jobs.old i job }
 {

@@ -30,6 +30,8 @@ pub fn entry_of(job: JobRecord, crew: Crew, place: Place, ending: Ending) -> Ent
     }
 }
 
+// What changes a register takes head, tables and crew, as each call is handed head and tables by a rule of the register.
+
 // What every ending of a crew's job does, with the entry that goes into the book.
 pub fn end_job<V>(head: &mut Started, t: &mut Tables<'_, V>, crew: Crew, last: Entry)
     ensures same { Same V t.new t.old }

@@ -2,7 +2,8 @@ ghost use Rattle.std.specs.Prelude.{◌≡◌};
 
 use crate::count::Count;
 
-// A paper: lent memory that the output is written into, and how many bytes of it are used.
+// A paper: lent memory that the output is written into, and how many bytes of it are used. The buffer with its count is one
+// struct; without a heap it is no vector.
 #[derive(Drop)]
 pub struct Paper<'a> {
     pub count: Count,

@@ -49,6 +49,7 @@ fn start_clears_what_it_should(rt: HostRuntime) -> Result<(), Fail> {
     fill(&mut head, &mut tables, 10)?;
     fill(&mut head, &mut tables, 11)?;
     assert_eq!(rt; fill(&mut head, &mut tables, 12), Err(Refusal::NoCell));
+    // Not by `?`: the test ends with a word of its own.
     let Ok(started) = start(head, &mut tables) else {
         return Err(Fail::new("not started"));
     };
@@ -90,6 +91,7 @@ fn start_waits_for_the_last_cell(rt: HostRuntime) -> Result<(), Fail> {
     };
     let mut head = Filling::new(Sizes::new(2, 1, 1)?);
     fill(&mut head, &mut tables, card)?;
+    // Not by `?`: the test ends with a word of its own.
     let Err(refused) = start(head, &mut tables) else {
         return Err(Fail::new("started too early"));
     };

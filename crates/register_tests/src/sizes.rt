@@ -3,6 +3,7 @@ use rules::sizes::Sizes;
 use std::test::Fail;
 use terms::refusals::Refusal;
 
+// Asks a Result for its error; it is no way to fail.
 fn refusal_of(cells: u64, crews: u64, entries: u64) -> Option<Refusal> {
     Sizes::new(cells, crews, entries).err()
 }

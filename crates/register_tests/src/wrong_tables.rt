@@ -36,6 +36,7 @@ fn check_named(rt: &impl Abort, wrong: TableName, number: u8) -> Result<(), Fail
         fill(&mut head, &mut tables, 9),
         Err(Refusal::WrongTable(wrong))
     );
+    // Not by `?`: the test ends with a word of its own.
     let Err(refused) = start(head, &mut tables) else {
         return Err(Fail::new("started"));
     };

@@ -18,7 +18,8 @@ pub record Contents (V : Type 0) : Type 0 where
 abbrev pub contents_of : (V : Type 0) → Tables V → Contents V
 contents_of V t = record { values = t.values.now; written = t.written.now; read = t.read.now; jobs = t.jobs.now; own = t.own.now; flags = t.flags.now; book = t.book.now }
 
--- each table is still the same lent slice, so that what a call leaves in it is what the lender finds
+-- each table is still the same lent slice, so that what a call leaves in it is what the lender finds; a clause of each call and
+-- no invariant of `Tables`, since it is about two moments
 pub record Same (V : Type 0) (after before : Tables V) : Type 0 where
   pub values : after.values.ghost_name ≡ before.values.ghost_name
   pub written : after.written.ghost_name ≡ before.written.ghost_name

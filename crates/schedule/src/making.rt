@@ -27,7 +27,8 @@ fn read_calls<K: Kind>(unread: &mut Unread<'_>) -> Result<(), BadLine>
     Ok(())
 }
 
-// Makes a register from the lines of its cells and calls: fills it, starts it, and makes its calls.
+// Makes a register from the lines of its cells and calls: fills it, starts it, and makes its calls. The tables stay beside
+// what is unread: the one is filled from the other.
 pub(crate) fn make_register<K: Kind>(
     sizes: Sizes,
     t: &mut Tables<'_, K>,

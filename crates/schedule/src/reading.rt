@@ -12,7 +12,8 @@ use stages::stage::{Reader, Stage, shape_of};
 use terms::refusals::{BadField, BadLine, Cause};
 use text::read_line;
 
-// What is left of a schedule: the number of the next line, the text from this line on, and the reader that takes the lines.
+// What is left of a schedule: the number of the next line, which is told of a bad one and is no length of the text, the text
+// from this line on, and the reader that takes the lines.
 #[derive(Drop)]
 pub(crate) struct Unread<'a> {
     pub number: usize,

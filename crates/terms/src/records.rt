@@ -40,7 +40,7 @@ pub enum Ending {
 }
 
 impl Ending {
-    // The letter that stands for the ending in the output.
+    // The letter that stands for the ending in the output; a cast, as `TableName::number` is.
     pub fn letter(self) -> u8
         ensures { result ≡ ending_letter self }
     {

@@ -34,14 +34,14 @@ pub enum Cause {
 }
 
 impl Cause {
-    // The letter that stands for the cause in the output.
+    // The letter that stands for the cause in the output; a cast, as `TableName::number` is.
     pub fn letter(self) -> u8
         ensures { result ≡ cause_letter self }
     {
         self as u8
     }
 
-    // The cause, told of a field.
+    // The cause, told of a field. It and `in_line` make two structs, and are the only places that write them out.
     pub fn in_field(self, field: usize) -> BadField
         ensures { (result.field ≡ field) × (result.cause ≡ self) }
     {

@@ -25,7 +25,8 @@ pub trait Kind: Copy {
     fn field(&self, i: usize) -> u64
         ensures { result ≡ slice_index (form.fields self.now) i };
 
-    // The value with `x` in its field `i`, counted from 0; none where `x` is out of that field's range.
+    // The value with `x` in its field `i`, counted from 0; none where `x` is out of that field's range. A number and its field
+    // come from a line apart.
     fn with_field(self, i: usize, x: u64) -> Option<Self>
         ensures { result ≡ form.with_field self i x };
 
