@@ -27,7 +27,7 @@ impl<'a> Unread<'a> {
     ghost use Rattle.schedule.specs.Reading.{MovedOn, ReadsWanted};
 
     // Takes the next line; refused where the line is missing, or where the reader does not take it.
-    pub fn next_line(&mut self) -> Result<&'a [u8], BadLine>
+    pub(crate) fn next_line(&mut self) -> Result<&'a [u8], BadLine>
         ensures { elim result [ Ok line ↦ (lines_of self.old.text.now ≡ line.now ∷ lines_of self.new.text.now) × (bad_shape self.old.reader.stage self.old.reader.width (shape_of line.now) ≡ None) × (MovedOn self.old self.new) | Err bad ↦ bad_next self.old.number self.old.reader.stage self.old.reader.width (lines_of self.old.text.now) ≡ Some bad ] }
     {
         let number = self.number;
@@ -44,7 +44,7 @@ impl<'a> Unread<'a> {
     }
 
     // Takes the next line, and reads it by a reader of its fields.
-    pub fn read_next<T, F: FnOnce(&[u8]) -> Result<T, BadField>>(
+    pub(crate) fn read_next<T, F: FnOnce(&[u8]) -> Result<T, BadField>>(
         &mut self,
         read: F,
     ) -> Result<T, BadLine>
