@@ -4,7 +4,7 @@ ghost use Rattle.std.specs.Prelude.{◌≡◌};
 ghost use Rattle.text.specs.Numbers.{number_in};
 ghost use Rattle.text.specs.Split.{before, after, field_count};
 
-use memchr::memchr;
+use memchr::memchr_iter;
 
 // The number in a field of 1 to 19 digits, which may begin with zeros; none in any other field.
 pub fn number(field: &[u8]) -> Option<u64>
@@ -29,7 +29,8 @@ pub fn cut(bytes: &[u8], separator: u8) -> (&[u8], &[u8])
     ensures first { result.0.now ≡ before separator bytes.now }
     ensures rest { result.1.now ≡ after separator bytes.now }
 {
-    match memchr(separator, bytes) {
+    // Byte by byte: most separators are a few bytes away, where memchr's wide search takes twice the time.
+    match bytes.iter().position(move |byte| *byte == separator) {
         Some(i) => (&bytes[..i], &bytes[i + 1..]),
         None => (bytes, &[]),
     }
@@ -56,5 +57,5 @@ pub fn read_line(text: &[u8]) -> (&[u8], &[u8])
 pub fn count_fields(line: &[u8]) -> usize
     ensures { result ≡ field_count line.now }
 {
-    1 + line.iter().filter(|x| **x == b',').count()
+    1 + memchr_iter(b',', line).count()
 }
