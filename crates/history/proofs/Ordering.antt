@@ -39,27 +39,27 @@ module _ (key : ℕ → ℕ) where
       (extends_total s t)
 
   -- who stands in the row after an insertion
-  insert_in : (x : ℕ) (r : List ℕ) → In x (insert x r)
+  pub insert_in : (x : ℕ) (r : List ℕ) → In x (insert x r)
   insert_in x [] = ([], here)
   insert_in x (y ∷ r) = cond_both (leb (key y) (key x)) _ _ (In x) (λ _. (y ∷ r, here)) (λ _. in_later x y (insert x r) (insert_in x r))
 
-  insert_keeps : (x z : ℕ) (r : List ℕ) → In z r → In z (insert x r)
+  pub insert_keeps : (x z : ℕ) (r : List ℕ) → In z r → In z (insert x r)
   insert_keeps x z [] i = in_later z x [] i
   insert_keeps x z (y ∷ r) i = cond_both (leb (key y) (key x)) _ _ (In z) (λ _. in_later z x (y ∷ r) i)
       (λ _. ⊎_elim (in_head z y (insert x r)) (λ k. in_later z y (insert x r) (insert_keeps x z r k)) (in_cases z y r i))
 
-  insert_cases : (x z : ℕ) (r : List ℕ) → In z (insert x r) → (z ≡ x) ⊎ In z r
+  pub insert_cases : (x z : ℕ) (r : List ℕ) → In z (insert x r) → (z ≡ x) ⊎ In z r
   insert_cases x z [] i = in_cases z x [] i
   insert_cases x z (y ∷ r) i = cond_both (leb (key y) (key x)) _ _ (λ q. In z q → (z ≡ x) ⊎ In z (y ∷ r)) (λ _. in_cases z x (y ∷ r))
       (λ _ k. ⊎_elim (λ e. inr (in_head z y r e)) (λ m. ⊎_map (λ e. e) (in_later z y r) (insert_cases x z r m)) (in_cases z y (insert x r) k)) i
 
-  insert_sorted : (x : ℕ) (r : List ℕ) → Sorted r → Sorted (insert x r)
+  pub insert_sorted : (x : ℕ) (r : List ℕ) → Sorted r → Sorted (insert x r)
   insert_sorted x [] so = ((λ z i. absurd (in_nil z i)), tt)
   insert_sorted x (y ∷ r) so = cond_both (leb (key y) (key x)) _ _ Sorted
       (λ e. let l = leb-true (key y) (key x) e in ((λ z i. ⊎_elim (λ q. rw q l) (λ m. omega (arith, so.0 z m, l)) (in_cases z y r i)), so))
       (λ e. let l = leb-false (key y) (key x) e in ((λ z i. ⊎_elim (λ q. rw q (omega (arith, l))) (λ m. so.0 z m) (insert_cases x z r i)), insert_sorted x r so.1))
 
-  insert_distinct : (x : ℕ) (r : List ℕ) → (In x r → ⊥) → Distinct r → Distinct (insert x r)
+  pub insert_distinct : (x : ℕ) (r : List ℕ) → (In x r → ⊥) → Distinct r → Distinct (insert x r)
   insert_distinct x [] n d = (n, tt)
   insert_distinct x (y ∷ r) n d = cond_both (leb (key y) (key x)) _ _ Distinct (λ _. (n, d))
       (λ _. ((λ i. ⊎_elim (λ e. n (in_head x y r (sym e))) d.0 (insert_cases x y r i)), insert_distinct x r (λ i. n (in_later x y r i)) d.1))
@@ -97,7 +97,7 @@ module _ (key : ℕ → ℕ) where
         (λ f. insert_distinct (suc n) (fill n row) (λ i. ⊎_elim (λ j. both_ways (closed (suc n)) f (c (suc n) j)) (λ k. omega (arith, k.1)) (fill_cases n (suc n) row i)) ih)
 
   -- all jobs 1, .. n
-  abbrev arrange : ℕ → List ℕ
+  abbrev pub arrange : ℕ → List ℕ
   arrange n = fill (λ x. false) n []
 
   arrange_in : (n x : ℕ) → 1 ≤ x → x ≤ n → In x (arrange n)

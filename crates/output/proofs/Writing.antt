@@ -33,7 +33,7 @@ pub length_laid : (xs : List ℕ) (at : ℕ) (ps : List ℕ) → at + length ps 
 length_laid xs at ps h = ap length (sym (laid_paste xs at ps)) ∙ length-paste xs at ps (length ps) h (omega arith)
 
 -- one part after another is both at once
-laid_more : (xs : List ℕ) (at : ℕ) (ps qs : List ℕ) → at ≤ length xs → laid (laid xs at ps) (at + length ps) qs ≡ laid xs at (ps ++ qs)
+pub laid_more : (xs : List ℕ) (at : ℕ) (ps qs : List ℕ) → at ≤ length xs → laid (laid xs at ps) (at + length ps) qs ≡ laid xs at (ps ++ qs)
 laid_more xs at ps qs h =
     sym (laid_paste (laid xs at ps) (at + length ps) qs)
     ∙ ap (λ (ys : List ℕ). paste ys (at + length ps) qs (length qs)) (sym (laid_paste xs at ps))

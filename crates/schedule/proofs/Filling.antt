@@ -30,7 +30,7 @@ one_wanted form cells i k values ls h =
     ap (λ (left : ℕ). at_cells form left k values ls) e
 
 -- while a cell is left, the reader stands among the cells
-among_cells : {V : Type 0} (form : Form V) (lines : Lines) (i : ℕ) (head : FillingHead) (t : Contents V) (u : Unread)
+pub among_cells : {V : Type 0} (form : Form V) (lines : Lines) (i : ℕ) (head : FillingHead) (t : Contents V) (u : Unread)
     → FilledTo form lines i head t u → i < head.sizes.cells → u.reader ≡ record { stage = Cells; left = head.sizes.cells - i; width = form.width }
 among_cells form lines i head t u f h =
     f.stands ∙ ap (λ (b : Bool). record { stage = cond b Calls Cells; left = head.sizes.cells - i; width = form.width }) (lt-leb (head.sizes.cells - i) 0 (omega arith))

@@ -20,7 +20,7 @@ use Rattle.schedule.specs.Accounts.{Lines, bad_next, at_line, wrong_letter, bad_
 
 ---- The text's lines
 
-first_line : (xs : List ℕ) → eqb (length xs) 0 ≡ false → lines_of xs ≡ before 10 xs ∷ lines_of (after 10 xs)
+pub first_line : (xs : List ℕ) → eqb (length xs) 0 ≡ false → lines_of xs ≡ before 10 xs ∷ lines_of (after 10 xs)
 first_line [] h = absurd cc
 first_line (x ∷ xs) h = lines_are x xs
 
