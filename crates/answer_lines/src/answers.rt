@@ -2,6 +2,7 @@ ghost use Rattle.std.specs.Prelude.{map};
 ghost use Rattle.output.specs.Lent.{LineWritten, LinesWritten};
 ghost use Rattle.answer_lines.specs.Answers.{answer_line};
 
+use output::answers::LineWriter;
 use output::lines::Lead;
 use output::paper::Paper;
 use rules::calls::Answer;
@@ -27,12 +28,20 @@ pub fn write_answer<K: Kind>(
     }
 }
 
+// Writes the lines of the answers of exchanges.
+struct AnswerWriter;
+
+impl<K: Kind> LineWriter<Exchange<K>> for AnswerWriter {
+    ghost line = { λ writer e. answer_line K.form e.answer };
+
+    fn write(&self, paper: &mut Paper<'_>, exchange: &Exchange<K>) -> Result<(), Refusal> {
+        write_answer(paper, &exchange.answer)
+    }
+}
+
 // Writes a line for the answer of each of a run's exchanges, until one finds no room.
 pub fn write_answers<K: Kind>(paper: &mut Paper<'_>, list: &[Exchange<K>]) -> Result<(), Refusal>
     ensures { LinesWritten (map (λ e. answer_line K.form e.answer) list.now) paper.old result paper.new }
 {
-    paper.write_each(
-        list,
-        |paper, exchange| write_answer(paper, &exchange.answer),
-    )
+    paper.write_each(list, &AnswerWriter)
 }

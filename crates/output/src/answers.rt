@@ -1,6 +1,6 @@
 ghost use Rattle.std.specs.Prelude.{◌≡◌, ℕ, List, map, None};
 ghost use Rattle.output.specs.Lines.{line_of, refusal_line, value_line};
-ghost use Rattle.output.specs.Lent.{LineWritten, LinesWritten, WritesLine};
+ghost use Rattle.output.specs.Lent.{LineWritten, LinesWritten};
 
 use crate::lines::Lead;
 use crate::paper::Paper;
@@ -18,6 +18,26 @@ fn fields_of<K: Kind>(value: &K) -> ArrayVec<u64, 64>
         fields.push(value.field(i));
     }
     fields
+}
+
+// Writes the lines of a list's items; `line` is the line that a writer gives an item. A trait and no closure: what calls a closure has to
+// require that it can be called, and a public function requires nothing.
+pub trait LineWriter<T> {
+    ghost line: { Self → T → List ℕ };
+
+    fn write(&self, paper: &mut Paper<'_>, item: &T) -> Result<(), Refusal>
+        ensures { LineWritten (line self.now item.now) paper.old result paper.new };
+}
+
+// Writes the lines of a table's values.
+struct ValueWriter;
+
+impl<K: Kind> LineWriter<K> for ValueWriter {
+    ghost line = { λ writer. value_line K.form };
+
+    fn write(&self, paper: &mut Paper<'_>, value: &K) -> Result<(), Refusal> {
+        paper.write_value(value)
+    }
 }
 
 impl Paper<'_> {
@@ -54,16 +74,15 @@ impl Paper<'_> {
     }
 
     // Writes a line for each item of a list, until one finds no room. A `for` with `?` is the plainest way to stop there.
-    pub fn write_each<T, F: Fn(&mut Paper<'_>, &T) -> Result<(), Refusal>>(
+    pub fn write_each<T, W: LineWriter<T>>(
         &mut self,
         items: &[T],
-        write: F,
+        writer: &W,
     ) -> Result<(), Refusal>
-        requires callable { F.IsAlwaysCallable write }
-        ensures { (line : T → List ℕ) → WritesLine (F.post write) line → LinesWritten (map line items.now) self.old result self.new }
+        ensures { LinesWritten (map (W.line writer.now) items.now) self.old result self.new }
     {
         for item in items {
-            write(self, item)?;
+            writer.write(self, item)?;
         }
         Ok(())
     }
@@ -72,6 +91,6 @@ impl Paper<'_> {
     pub fn write_values<K: Kind>(&mut self, values: &[K]) -> Result<(), Refusal>
         ensures { LinesWritten (map (value_line K.form) values.now) self.old result self.new }
     {
-        self.write_each(values, |paper, value| paper.write_value(value))
+        self.write_each(values, &ValueWriter)
     }
 }

@@ -25,13 +25,17 @@ impl Paper<'_> {
         }
     }
 
-    // Writes a comma and a letter, where there is one.
+    // Writes a comma and a letter, where there is one: two pieces, as before each number, so that a line which breaks off
+    // between them has left the comma behind the used bytes.
     fn put_tail(&mut self, tail: Option<u8>) -> Result<(), Refusal>
         requires { self.old.count.used + 64 ≤ length self.old.bytes.now }
         ensures { PieceWritten (tail_bytes tail) self.old result self.new }
     {
         match tail {
-            Some(b) => self.put(&[b',', b]),
+            Some(b) => {
+                self.put(b",")?;
+                self.put(&[b])
+            }
             None => Ok(()),
         }
     }

@@ -41,11 +41,24 @@ impl Paper<'_> {
         Ok(())
     }
 
-    // Writes the digits of a number.
-    pub(crate) fn put_digits(&mut self, n: u64) -> Result<(), Refusal>
+    // Writes the digits of a number by the library's buffer.
+    #[inline(never)]
+    fn put_number(&mut self, n: u64) -> Result<(), Refusal>
         ensures { PieceWritten (decimal n) self.old result self.new }
     {
         self.put(Buffer::new().format(n).as_bytes())
+    }
+
+    // Writes the digits of a number. One or two are written as they are, and the buffer is another function's: it takes
+    // longer than these digits, and would slow them down where it only stands beside them.
+    pub(crate) fn put_digits(&mut self, n: u64) -> Result<(), Refusal>
+        ensures { PieceWritten (decimal n) self.old result self.new }
+    {
+        match n {
+            0..=9 => self.put(&[b'0' + n as u8]),
+            10..=99 => self.put(&[b'0' + (n / 10) as u8, b'0' + (n % 10) as u8]),
+            _ => self.put_number(n),
+        }
     }
 
     // Writes a comma and the digits of a number.
