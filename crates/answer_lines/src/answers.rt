@@ -43,5 +43,5 @@ impl<K: Kind> LineWriter<Exchange<K>> for AnswerWriter {
 pub fn write_answers<K: Kind>(paper: &mut Paper<'_>, list: &[Exchange<K>]) -> Result<(), Refusal>
     ensures { LinesWritten (map (λ e. answer_line K.form e.answer) list.now) paper.old result paper.new }
 {
-    paper.write_each(list, &AnswerWriter)
+    paper.write_lines(list, &AnswerWriter)
 }

@@ -31,5 +31,5 @@ impl LineWriter<Entry> for EntryWriter {
 pub fn write_entries(paper: &mut Paper<'_>, entries: &[Entry]) -> Result<(), Refusal>
     ensures { LinesWritten (map entry_line entries.now) paper.old result paper.new }
 {
-    paper.write_each(entries, &EntryWriter)
+    paper.write_lines(entries, &EntryWriter)
 }

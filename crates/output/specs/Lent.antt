@@ -1,5 +1,6 @@
 -- A lent paper before and after it is written on.
 use Rattle.std.specs.Prelude.{◌≡◌, ℕ, List, length, Some, None, Option, Result}
+use Rattle.std.specs.Borrow.{Bor, MutBor}
 use Rattle.terms.specs.declared.refusals.Refusal.{Refusal}
 use Rattle.output.specs.declared.paper.Paper.{Paper}
 use Rattle.output.specs.Papers.{Written, WrittenAll}
@@ -24,6 +25,11 @@ pub record LineWritten (line : List ℕ) (before : Paper) (r : Result (Unit {0})
 pub record LinesWritten (lines : List (List ℕ)) (before : Paper) (r : Result (Unit {0}) Refusal) (after : Paper) : Type 0 where
   pub written : WrittenAll lines before.count before.bytes.now r after.count after.bytes.now
   pub same : SameBytes after before
+
+-- each call of a closure, of which post says what it answers and leaves, writes the line of the item that it is given
+abbrev pub WritesLine : {T : Type 0} → (MutBor Paper → Bor T → Result (Unit {0}) Refusal → MutBor Paper → Type 0) → (T → List ℕ) → Type 0
+WritesLine {T} post line =
+    (paper : MutBor Paper) (item : Bor T) (r : Result (Unit {0}) Refusal) (after : MutBor Paper) → post paper item r after → LineWritten (line item.now) paper.now r after.now
 
 -- the paper once a line has ended: the count goes back, unless the line was finished
 abbrev pub taken_back : Option ℕ → Paper → Paper

@@ -1,6 +1,6 @@
 ghost use Rattle.std.specs.Prelude.{◌≡◌, ℕ, List, map, None};
 ghost use Rattle.output.specs.Lines.{line_of, refusal_line, value_line};
-ghost use Rattle.output.specs.Lent.{LineWritten, LinesWritten};
+ghost use Rattle.output.specs.Lent.{LineWritten, LinesWritten, WritesLine};
 
 use crate::lines::Lead;
 use crate::paper::Paper;
@@ -21,7 +21,7 @@ fn fields_of<K: Kind>(value: &K) -> ArrayVec<u64, 64>
 }
 
 // Writes the lines of a list's items; `line` is the line that a writer gives an item. A trait and no closure: what calls a closure has to
-// require that it can be called, and a public function requires nothing.
+// require that it can be called, and `write_lines` requires nothing.
 pub trait LineWriter<T> {
     ghost line: { Self → T → List ℕ };
 
@@ -73,8 +73,8 @@ impl Paper<'_> {
         self.write_fields(Lead::Letter(b'V'), value)
     }
 
-    // Writes a line for each item of a list, until one finds no room. A `for` with `?` is the plainest way to stop there.
-    pub fn write_each<T, W: LineWriter<T>>(
+    // Writes a line for each item of a list by a `LineWriter`, until one finds no room. A `for` with `?` is the plainest way to stop there.
+    pub fn write_lines<T, W: LineWriter<T>>(
         &mut self,
         items: &[T],
         writer: &W,
@@ -87,10 +87,26 @@ impl Paper<'_> {
         Ok(())
     }
 
+    // The same by a closure or a function by name: lines are promised of one that writes each item's line. It alone of the public
+    // functions has a `requires`, since the check wants one wherever a closure or function that was passed in is called.
+    pub fn write_each<T, F: Fn(&mut Paper<'_>, &T) -> Result<(), Refusal>>(
+        &mut self,
+        items: &[T],
+        write: F,
+    ) -> Result<(), Refusal>
+        requires callable { F.IsAlwaysCallable write }
+        ensures { (line : T → List ℕ) → WritesLine (F.post write) line → LinesWritten (map line items.now) self.old result self.new }
+    {
+        for item in items {
+            write(self, item)?;
+        }
+        Ok(())
+    }
+
     // Writes a line for each of a table's values, until one finds no room.
     pub fn write_values<K: Kind>(&mut self, values: &[K]) -> Result<(), Refusal>
         ensures { LinesWritten (map (value_line K.form) values.now) self.old result self.new }
     {
-        self.write_each(values, &ValueWriter)
+        self.write_lines(values, &ValueWriter)
     }
 }

@@ -1,0 +1,5 @@
+#![tactic(auto)]
+
+// What lists of lines leave on a paper, on examples.
+#[cfg(test)]
+mod lists;
