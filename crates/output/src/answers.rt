@@ -87,8 +87,9 @@ impl Paper<'_> {
         Ok(())
     }
 
-    // The same by a closure or a function by name: lines are promised of one that writes each item's line. It alone of the public
-    // functions has a `requires`, since the check wants one wherever a closure or function that was passed in is called.
+    // Calls a closure or a function by name with one item after another, until it fails. Where it writes each item's line, these
+    // lines are promised; else only that this is safe and returns. No other public function has a `requires`: the check wants one
+    // wherever a closure or function that was passed in is called.
     pub fn write_each<T, F: Fn(&mut Paper<'_>, &T) -> Result<(), Refusal>>(
         &mut self,
         items: &[T],
