@@ -2,6 +2,7 @@ ghost use Rattle.std.specs.Prelude.{◌∷◌, [], None};
 ghost use Rattle.output.specs.declared.lines.Lead.TheVariants.{Letter};
 ghost use Rattle.output.specs.Lines.{line_of};
 
+use crate::callers::write_values_by_closure;
 use output::answers::LineWriter;
 use output::lines::Lead;
 use output::paper::Paper;
@@ -20,7 +21,7 @@ fn write_dial(paper: &mut Paper<'_>, dial: &Dial) -> Result<(), Refusal> {
 fn lines_by_closures(rt: HostRuntime) -> Result<(), Fail> {
     let mut bytes = [b'.'; 82];
     let mut paper = Paper::new(&mut bytes);
-    paper.write_each(&DIALS, |paper, dial| paper.write_value(dial))?;
+    write_values_by_closure(&mut paper, &DIALS)?;
     assert_eq!(rt; paper.count.used, 14);
     assert_eq!(rt; &bytes[..18], b"V,7\nV,0\nV,120\n....".as_slice());
 
